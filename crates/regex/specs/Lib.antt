@@ -6,3 +6,4 @@ pub mod Relation
 pub mod Precedence
 pub mod Decision
 pub mod Ranking
+pub mod Bench

@@ -28,7 +28,7 @@ sizesBelow (more v w) = (suc (length (flat v)) ∷ sizesBelow v) ++ sizesBelow w
 abbrev pub sizes : Val → List ℕ
 sizes v = suc (length (flat v)) ∷ sizesBelow v
 
--- the first of three answers whose test is true
+-- the first verdict where the test is true, otherwise the second
 abbrev pub choose : Bool → Verdict → Verdict → Verdict
 choose true a b = a
 choose false a b = b
