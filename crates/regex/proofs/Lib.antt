@@ -5,6 +5,7 @@ pub mod Paths
 pub mod Inside
 pub mod Ahead
 pub mod Ranks
+pub mod Sizes
 pub mod Languages
 pub mod Spells
 pub mod Parse

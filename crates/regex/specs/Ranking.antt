@@ -42,3 +42,17 @@ firstLarger (x ∷ xs) (y ∷ ys) = choose (ltb y x) first (choose (ltb x y) sec
 -- which of two readings of one expression and one line ranks ahead
 abbrev pub rank : Val → Val → Verdict
 rank v w = firstLarger (sizes v) (sizes w)
+
+-- the same by parts: the first verdict that is not `same`
+abbrev pub thenBy : Verdict → Verdict → Verdict
+thenBy same d = d
+thenBy first d = first
+thenBy second d = second
+
+-- the verdict of two lengths, and where they are equal another
+abbrev pub bySize : ℕ → ℕ → Verdict → Verdict
+bySize m n d = choose (ltb n m) first (choose (ltb m n) second d)
+
+-- the verdict below the roots of two readings
+abbrev pub rankBelow : Val → Val → Verdict
+rankBelow v w = firstLarger (sizesBelow v) (sizesBelow w)
