@@ -1,0 +1,78 @@
+-- What is wrong with a table (document 01, "Who is refused, and by which number", refusals 1 to 6), each refusal by itself; and a table that
+-- passes, which is free of all six. Nothing here speaks of an order of testing.
+-- Assumes nothing.
+use Prim.Native.Nat.{ℕ, zero, suc, _<_, _%_}
+use mathlib.Core.Path.{_≡_}
+use mathlib.Core.Bool.{Bool, false, not, _||_}
+use mathlib.Core.List.{List}
+use lib.Dec.{ltb, eqb}
+use lib.ListN.{length}
+use Rattle.table.specs.Records.{count, kindAt, aAt, bAt}
+
+-- 1: "table of 0 bytes, over 1,020, or not a multiple of 4"
+abbrev pub badSize : List ℕ → Bool
+badSize t = eqb (length t) 0 || (ltb 1020 (length t) || not (eqb (length t % 4) 0))
+
+-- a test that goes by a record's kind: the first answer at Nothing and Empty, then Range, Or and Seq, Star, and any other
+abbrev pub byKind : ℕ → Bool → Bool → Bool → Bool → Bool → Bool
+byKind zero plain range two star other = plain
+byKind (suc zero) plain range two star other = plain
+byKind (suc (suc zero)) plain range two star other = range
+byKind (suc (suc (suc zero))) plain range two star other = two
+byKind (suc (suc (suc (suc zero)))) plain range two star other = two
+byKind (suc (suc (suc (suc (suc zero))))) plain range two star other = star
+byKind (suc (suc (suc (suc (suc (suc n)))))) plain range two star other = other
+
+-- 2: "kind above 5"
+abbrev pub badKind : List ℕ → ℕ → Bool
+badKind t k = ltb 5 (kindAt t k)
+
+-- 3: "an a or b that the table above gives as 0 is not 0": both of Nothing and Empty, b of Star
+abbrev pub badUnused : List ℕ → ℕ → Bool
+badUnused t k =
+    byKind (kindAt t k) (not (eqb (aAt t k) 0) || not (eqb (bAt t k) 0)) false false (not (eqb (bAt t k) 0)) false
+
+-- 4: "Range with a > b"
+abbrev pub badRange : List ℕ → ℕ → Bool
+badRange t k = byKind (kindAt t k) false (ltb (bAt t k) (aAt t k)) false false false
+
+-- 5: "child number not below its parent's"
+abbrev pub badChild : List ℕ → ℕ → Bool
+badChild t k = byKind (kindAt t k) false false (not (ltb (aAt t k) k) || not (ltb (bAt t k) k)) (not (ltb (aAt t k) k)) false
+
+-- record j names c as a child
+abbrev pub names : List ℕ → ℕ → ℕ → Bool
+names t j c = byKind (kindAt t j) false false (eqb (aAt t j) c || eqb (bAt t j) c) (eqb (aAt t j) c) false
+
+-- some record below k names c as a child
+abbrev pub namedBelow : List ℕ → ℕ → ℕ → Bool
+namedBelow t zero c = false
+namedBelow t (suc j) c = names t j c || namedBelow t j c
+
+-- 6: "a child already named, by a lower record or by the other field"
+abbrev pub badNamed : List ℕ → ℕ → Bool
+badNamed t k =
+    byKind (kindAt t k) false false
+    (namedBelow t k (aAt t k) || (namedBelow t k (bAt t k) || eqb (aAt t k) (bAt t k)))
+    (namedBelow t k (aAt t k))
+    false
+
+-- the table is free of refusals 1 to 6
+pub record Passes (t : List ℕ) : Type 0 where
+  pub free-1 : badSize t ≡ false
+  pub free-2 : (k : ℕ) → k < count t → badKind t k ≡ false
+  pub free-3 : (k : ℕ) → k < count t → badUnused t k ≡ false
+  pub free-4 : (k : ℕ) → k < count t → badRange t k ≡ false
+  pub free-5 : (k : ℕ) → k < count t → badChild t k ≡ false
+  pub free-6 : (k : ℕ) → k < count t → badNamed t k ≡ false
+
+-- the fault with a refusal's number at record k: 2 to 6, and none at any other number
+abbrev pub fault : ℕ → List ℕ → ℕ → Bool
+fault zero t k = false
+fault (suc zero) t k = false
+fault (suc (suc zero)) t k = badKind t k
+fault (suc (suc (suc zero))) t k = badUnused t k
+fault (suc (suc (suc (suc zero)))) t k = badRange t k
+fault (suc (suc (suc (suc (suc zero))))) t k = badChild t k
+fault (suc (suc (suc (suc (suc (suc zero)))))) t k = badNamed t k
+fault (suc (suc (suc (suc (suc (suc (suc n))))))) t k = false
