@@ -1,0 +1,13 @@
+-- Readings as bytes: the laws that upper crates cite.
+pub mod Codec
+pub mod Lengths
+pub mod Fitting
+pub mod Sizes
+pub mod Walks
+pub mod Fitted
+pub mod Parts
+pub mod Wholes
+pub mod Admission
+pub mod Spelling
+mod Shapes
+mod Copying

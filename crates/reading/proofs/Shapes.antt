@@ -1,0 +1,89 @@
+-- The shape of a reading's record, one law for each way in which the code tells it.
+-- Assumes nothing.
+use Prim.Native.Nat.{ℕ, zero, suc, _+_, _≤_, _<_}
+use mathlib.Core.Path.{_≡_, refl, sym, _∙_}
+use mathlib.Core.Bool.{Bool, true, false, _&&_}
+use mathlib.Core.List.{List}
+use borrow.Author.Tests.{le-leb, lt-leb, ne-eqb}
+use lib.Dec.{eqb}
+use lib.ListN.{length, getD}
+use Rattle.table.specs.Records.{kindAt, aAt, bAt}
+use Rattle.reading.specs.declared.Shape.{Shape}
+use Rattle.reading.specs.declared.Shape.the-variants.{Leaf, Left, Right, Both, Many, Other}
+use Rattle.reading.specs.Walks.{pickShape, shapeOf, shapeAt}
+
+-- the second of two tests fails
+not-second : (b : Bool) (y n : ℕ) (s u : Shape) → ¬ (y ≡ n) → pickShape (b && eqb y n) s u ≡ u
+not-second true y n s u e = rw (ne-eqb y n e)
+not-second false y n s u e = refl
+
+module _ (kind a b x y : ℕ) where
+  pub empty-leaf : kind ≡ 1 → x ≡ 0 → y ≡ 0 → Leaf 0 ≡ shapeOf kind a b x y
+  empty-leaf k e f = rw (k, e, f)
+
+  pub empty-kind : kind ≡ 1 → ¬ (x ≡ 0) → Other ≡ shapeOf kind a b x y
+  empty-kind k e = rw (k, ne-eqb x 0 e)
+
+  pub empty-argument : kind ≡ 1 → ¬ (y ≡ 0) → Other ≡ shapeOf kind a b x y
+  empty-argument k e = rw k (sym (not-second (eqb x 0) y 0 _ _ e))
+
+  pub range-leaf : kind ≡ 2 → x ≡ 1 → a ≤ y → y ≤ b → Leaf 1 ≡ shapeOf kind a b x y
+  range-leaf k e l m = rw (k, e, le-leb a y l, le-leb y b m)
+
+  pub range-kind : kind ≡ 2 → ¬ (x ≡ 1) → Other ≡ shapeOf kind a b x y
+  range-kind k e = rw (k, ne-eqb x 1 e)
+
+  pub range-low : kind ≡ 2 → x ≡ 1 → y < a → Other ≡ shapeOf kind a b x y
+  range-low k e l = rw (k, e, lt-leb a y l)
+
+  pub range-high : kind ≡ 2 → x ≡ 1 → a ≤ y → b < y → Other ≡ shapeOf kind a b x y
+  range-high k e l m = rw (k, e, le-leb a y l, lt-leb y b m)
+
+  pub or-left : kind ≡ 3 → y ≡ 0 → x ≡ 2 → Left a ≡ shapeOf kind a b x y
+  or-left k f e = rw (k, e, f)
+
+  pub or-right : kind ≡ 3 → y ≡ 0 → x ≡ 3 → Right b ≡ shapeOf kind a b x y
+  or-right k f e = rw (k, e, f)
+
+  pub or-kind : kind ≡ 3 → ¬ (x ≡ 2) → ¬ (x ≡ 3) → Other ≡ shapeOf kind a b x y
+  or-kind k e f = rw (k, ne-eqb x 2 e, ne-eqb x 3 f)
+
+  pub or-argument : kind ≡ 3 → ¬ (y ≡ 0) → Other ≡ shapeOf kind a b x y
+  or-argument k e = rw k (sym (not-second (eqb x 2) y 0 _ _ e ∙ not-second (eqb x 3) y 0 _ _ e))
+
+  pub seq-both : kind ≡ 4 → x ≡ 4 → y ≡ 0 → Both a b ≡ shapeOf kind a b x y
+  seq-both k e f = rw (k, e, f)
+
+  pub seq-kind : kind ≡ 4 → ¬ (x ≡ 4) → Other ≡ shapeOf kind a b x y
+  seq-kind k e = rw (k, ne-eqb x 4 e)
+
+  pub seq-argument : kind ≡ 4 → ¬ (y ≡ 0) → Other ≡ shapeOf kind a b x y
+  seq-argument k e = rw k (sym (not-second (eqb x 4) y 0 _ _ e))
+
+  pub star-many : kind ≡ 5 → x ≡ 5 → Many a y ≡ shapeOf kind a b x y
+  star-many k e = rw (k, e)
+
+  pub star-kind : kind ≡ 5 → ¬ (x ≡ 5) → Other ≡ shapeOf kind a b x y
+  star-kind k e = rw (k, ne-eqb x 5 e)
+
+pub other-kind :
+    (kind a b x y : ℕ) → ¬ (kind ≡ 1) → ¬ (kind ≡ 2) → ¬ (kind ≡ 3) → ¬ (kind ≡ 4) → ¬ (kind ≡ 5) → Other ≡ shapeOf kind a b x y
+other-kind zero a b x y n1 n2 n3 n4 n5 = refl
+other-kind (suc zero) a b x y n1 n2 n3 n4 n5 = absurd (n1 refl)
+other-kind (suc (suc zero)) a b x y n1 n2 n3 n4 n5 = absurd (n2 refl)
+other-kind (suc (suc (suc zero))) a b x y n1 n2 n3 n4 n5 = absurd (n3 refl)
+other-kind (suc (suc (suc (suc zero)))) a b x y n1 n2 n3 n4 n5 = absurd (n4 refl)
+other-kind (suc (suc (suc (suc (suc zero))))) a b x y n1 n2 n3 n4 n5 = absurd (n5 refl)
+other-kind (suc (suc (suc (suc (suc (suc n)))))) a b x y n1 n2 n3 n4 n5 = refl
+
+-- the shape of the record at a place: none where less than a record is left
+pub look-short : (t : List ℕ) (k : ℕ) (bs : List ℕ) (at : ℕ) → length bs < at + 2 → Other ≡ shapeAt t k bs at
+unfolding shapeAt
+look-short t k bs at h = rw (lt-leb (at + 2) (length bs) h)
+
+pub look-full :
+    (t : List ℕ) (k : ℕ) (bs : List ℕ) (at kind a b : ℕ) (s : Shape) → at + 2 ≤ length bs → kind ≡ kindAt t k → a ≡ aAt t k → b ≡ bAt t k
+    → s ≡ shapeOf kind a b (getD bs at 0) (getD bs (at + 1) 0)
+    → s ≡ shapeAt t k bs at
+unfolding shapeAt
+look-full t k bs at kind a b s h ek ea eb e = rw (le-leb (at + 2) (length bs) h) (rw (ek, ea, eb) at e)

@@ -1,0 +1,34 @@
+-- How long a fitting reading can be (document 01, "Readings"): "A fitting reading that spells n bytes has at most m times max(n, 1) records".
+-- Assumes nothing.
+use Prim.Native.Nat.{ℕ, _*_, _≤_, _<_, max}
+use mathlib.Core.Path.{_≡_, ap}
+use mathlib.Core.List.{List}
+use native.Mathlib.Nat.{mul-le-mul-right}
+use native.Mathlib.Omega.{arith}
+use lib.ListN.{length}
+use Rattle.regex.specs.Expressions.{nodes}
+use Rattle.regex.specs.Values.{flat, records}
+use Rattle.regex.proofs.Count.{records-bound}
+use Rattle.table.specs.Records.{count}
+use Rattle.table.specs.Faults.{Passes}
+use Rattle.table.specs.Expression.{expOf}
+use Rattle.table.proofs.Nodes.{nodes-bound}
+use Rattle.reading.specs.Fitting.{Fits, spelled}
+use Rattle.reading.proofs.Lengths.{encode-length, spelled-fits}
+
+-- a fitting reading has at most m times max (n, 1) records, where n is the number of bytes that it spells
+pub records-fits :
+    (t : List ℕ) → Passes t → (k : ℕ) → k < count t → (bs : List ℕ) (f : Fits t k bs)
+    → records (f .value) ≤ count t * max (length (spelled bs)) 1
+records-fits t p k l bs f =
+    let n : ℕ = max (length (flat (f .value))) 1 in
+    let e : max (length (spelled bs)) 1 ≡ n = ap (λ (s : List ℕ). max (length s) 1) (spelled-fits f) in
+    let b : nodes (expOf t k) ≤ count t = omega (arith, nodes-bound t p k l) in
+    let c : nodes (expOf t k) * n ≤ count t * n = mul-le-mul-right n b in
+    rw e (omega (arith, records-bound (f .reads)))
+
+-- the same in bytes
+pub bytes-fits :
+    (t : List ℕ) → Passes t → (k : ℕ) → k < count t → (bs : List ℕ) → Fits t k bs
+    → length bs ≤ 2 * (count t * max (length (spelled bs)) 1)
+bytes-fits t p k l bs f = omega (arith, records-fits t p k l bs f, encode-length (f .reads), ap length (f .encoded))

@@ -1,0 +1,109 @@
+-- What the functions that walk over a reading find at a place: the shape of its record, and the part that starts there.
+-- Assumes nothing.
+use Prim.Native.Nat.{ℕ, zero, suc, _+_, _-_}
+use mathlib.Core.Bool.{Bool, true, false, _&&_}
+use mathlib.Core.List.{List}
+use lib.Dec.{eqb, leb}
+use lib.ListN.{length, getD, drop}
+use Rattle.regex.specs.Values.{void, byte, left, right, pair, flat}
+use Rattle.regex.specs.Decision.{Parsed, found, missing}
+use Rattle.table.specs.Records.{kindAt, aAt, bAt}
+use Rattle.table.specs.Expression.{expOf}
+use Rattle.reading.specs.declared.Span.{Span}
+use Rattle.reading.specs.declared.Fit.{Fit}
+use Rattle.reading.specs.declared.Fit.the-variants.{Found, Unfit}
+use Rattle.reading.specs.declared.Shape.{Shape}
+use Rattle.reading.specs.declared.Shape.the-variants.{Leaf, Left, Right, Both, Many, Other}
+use Rattle.reading.specs.declared.Whole.{Whole}
+use Rattle.reading.specs.declared.Whole.the-variants.{Spells, Misfit}
+use Rattle.reading.specs.Fitting.{readingOf}
+use Rattle.reading.specs.Codec.{Decoded, fits, unfit, under, chain, decodeItems, decode}
+
+abbrev pub pickShape : Bool → Shape → Shape → Shape
+pickShape true x y = x
+pickShape false x y = y
+
+-- the shape of a reading's record x, y by a table record of a kind, a, b
+abbrev pub shapeOf : ℕ → ℕ → ℕ → ℕ → ℕ → Shape
+shapeOf zero a b x y = Other
+shapeOf (suc zero) a b x y = pickShape (eqb x 0 && eqb y 0) (Leaf 0) Other
+shapeOf (suc (suc zero)) a b x y = pickShape (eqb x 1 && (leb a y && leb y b)) (Leaf 1) Other
+shapeOf (suc (suc (suc zero))) a b x y =
+    pickShape (eqb x 2 && eqb y 0) (Left a) (pickShape (eqb x 3 && eqb y 0) (Right b) Other)
+shapeOf (suc (suc (suc (suc zero)))) a b x y = pickShape (eqb x 4 && eqb y 0) (Both a b) Other
+shapeOf (suc (suc (suc (suc (suc zero))))) a b x y = pickShape (eqb x 5) (Many a y) Other
+shapeOf (suc (suc (suc (suc (suc (suc n)))))) a b x y = Other
+
+-- the shape of the record at a place, by table record k
+unfoldable pub shapeAt : List ℕ → ℕ → List ℕ → ℕ → Shape
+shapeAt t k bs at =
+    pickShape (leb (at + 2) (length bs)) (shapeOf (kindAt t k) (aAt t k) (bAt t k) (getD bs at 0) (getD bs (at + 1) 0)) Other
+
+-- a reading of one record that spells n bytes, by its argument
+abbrev pub leaf : ℕ → ℕ → List ℕ → Decoded
+leaf zero y rest = fits void rest
+leaf (suc zero) y rest = fits (byte y) rest
+leaf (suc (suc n)) y rest = unfit
+
+-- what decoding finds at a place by the shape of its record
+abbrev pub decodeBy : List ℕ → List ℕ → ℕ → Shape → Decoded
+decodeBy t bs at (Leaf n) = leaf n (getD bs (at + 1) 0) (drop (at + 2) bs)
+decodeBy t bs at (Left c) = under left (decode (expOf t c) (drop (at + 2) bs))
+decodeBy t bs at (Right c) = under right (decode (expOf t c) (drop (at + 2) bs))
+decodeBy t bs at (Both c d) = chain pair (decode (expOf t c) (drop (at + 2) bs)) (λ over. decode (expOf t d) over)
+decodeBy t bs at (Many c n) = decodeItems (λ over. decode (expOf t c) over) n (drop (at + 2) bs)
+decodeBy t bs at Other = unfit
+
+-- the part that decoding found, in a reading of n bytes
+abbrev pub spanOf : ℕ → Decoded → Fit
+spanOf n (fits v rest) = Found (record { next = record { at = n - length rest }; size = length (flat v) })
+spanOf n unfit = Unfit
+
+-- the part that starts at a place, by record k
+unfoldable pub fitAt : List ℕ → ℕ → List ℕ → ℕ → Fit
+fitAt t k bs at = spanOf (length bs) (decode (expOf t k) (drop at bs))
+
+-- n iterations that start at a place, each by record c
+unfoldable pub fitItems : List ℕ → ℕ → ℕ → List ℕ → ℕ → Fit
+fitItems t c n bs at = spanOf (length bs) (decodeItems (λ over. decode (expOf t c) over) n (drop at bs))
+
+-- a part that spells so many bytes more
+abbrev pub longer : ℕ → Fit → Fit
+longer l (Found s) = Found (record { next = s .next; size = l + s .size })
+longer l Unfit = Unfit
+
+-- a part, then what f finds behind it
+abbrev pub thenFit : Fit → (ℕ → Fit) → Fit
+thenFit (Found s) f = longer (s .size) (f (s .next .at))
+thenFit Unfit f = Unfit
+
+-- a part that spells at least one byte
+abbrev pub unlessEmpty : ℕ → Fit → Fit
+unlessEmpty zero f = Unfit
+unlessEmpty (suc n) f = f
+
+abbrev pub spellingPart : Fit → Fit
+spellingPart (Found s) = unlessEmpty (s .size) (Found s)
+spellingPart Unfit = Unfit
+
+-- whether a part fits
+abbrev pub isFound : Fit → Bool
+isFound (Found s) = true
+isFound Unfit = false
+
+-- the part at a place by the shape of its first record
+abbrev pub fitBy : List ℕ → List ℕ → ℕ → Shape → Fit
+fitBy t bs at (Leaf n) = Found (record { next = record { at = at + 2 }; size = n })
+fitBy t bs at (Left c) = fitAt t c bs (at + 2)
+fitBy t bs at (Right c) = fitAt t c bs (at + 2)
+fitBy t bs at (Both c d) = thenFit (fitAt t c bs (at + 2)) (λ next. fitAt t d bs next)
+fitBy t bs at (Many c n) = fitItems t c n bs (at + 2)
+fitBy t bs at Other = Unfit
+
+-- how many bytes a whole reading spells
+abbrev pub sized : Parsed → Whole
+sized (found v) = Spells (length (flat v))
+sized missing = Misfit
+
+unfoldable pub wholeAt : List ℕ → ℕ → List ℕ → Whole
+wholeAt t k bs = sized (readingOf t k bs)
