@@ -233,6 +233,7 @@ pub fn part_length(table: &[u8], k: usize, reading: &[u8], place: Place) -> Span
             }
             Span { next: at, size }
         }
+        // A part that fits has no such record.
         Shape::Other => Span { next, size: 0 },
     }
 }
