@@ -1,0 +1,16 @@
+-- Tables T1 to T4 and the cases A to J follow from the definitions that the calls' contracts cite: one proof over the list.
+-- Assumes nothing.
+use mathlib.Core.Path.{_≡_, refl}
+use mathlib.Core.List.{map}
+use Rattle.table.specs.Expression.{below, expOf}
+use Rattle.reading.specs.Fitting.{readingOf}
+use Rattle.reading.specs.Calls.{spellSays, spellLeaves}
+use Rattle.tokens.specs.Listed.{tokensSays, tokensLeaves}
+use Rattle.ranking.specs.Answers.{compareSays}
+use Rattle.matcher.specs.Calls.{readSays, readLeaves}
+use Rattle.cases.specs.Cases.{stated, computedBy, computed, cases}
+
+-- every case comes out as the document states it
+pub cases-hold : map computed cases ≡ map stated cases
+unfolding computed computedBy below expOf readingOf spellSays spellLeaves tokensSays tokensLeaves compareSays readSays readLeaves
+cases-hold = refl

@@ -1,0 +1,41 @@
+-- The tables T1 to T4 of document 01, "Lines on the bench", byte for byte.
+-- Assumes nothing.
+use Prim.Native.Nat.{ℕ}
+use mathlib.Core.List.{List, [], _∷_}
+
+-- T1, (a + ab + bc)*, start 9
+abbrev pub T1 : List ℕ
+T1 =
+    2 ∷ 0x61 ∷ 0x61 ∷ 1
+    ∷ 2 ∷ 0x61 ∷ 0x61 ∷ 0
+    ∷ 2 ∷ 0x62 ∷ 0x62 ∷ 0
+    ∷ 4 ∷ 1 ∷ 2 ∷ 2
+    ∷ 2 ∷ 0x62 ∷ 0x62 ∷ 0
+    ∷ 2 ∷ 0x63 ∷ 0x63 ∷ 0
+    ∷ 4 ∷ 4 ∷ 5 ∷ 3
+    ∷ 3 ∷ 0 ∷ 3 ∷ 0
+    ∷ 3 ∷ 7 ∷ 6 ∷ 0
+    ∷ 5 ∷ 8 ∷ 0 ∷ 0
+    ∷ []
+
+-- T2, (a + ε)·(b + ab), start 8
+abbrev pub T2 : List ℕ
+T2 =
+    2 ∷ 0x61 ∷ 0x61 ∷ 0
+    ∷ 1 ∷ 0 ∷ 0 ∷ 0
+    ∷ 3 ∷ 0 ∷ 1 ∷ 0
+    ∷ 2 ∷ 0x62 ∷ 0x62 ∷ 0
+    ∷ 2 ∷ 0x61 ∷ 0x61 ∷ 0
+    ∷ 2 ∷ 0x62 ∷ 0x62 ∷ 0
+    ∷ 4 ∷ 4 ∷ 5 ∷ 0
+    ∷ 3 ∷ 3 ∷ 6 ∷ 0
+    ∷ 4 ∷ 2 ∷ 7 ∷ 0
+    ∷ []
+
+-- T3, ε*, start 1
+abbrev pub T3 : List ℕ
+T3 = 1 ∷ 0 ∷ 0 ∷ 0 ∷ 5 ∷ 0 ∷ 0 ∷ 0 ∷ []
+
+-- T4, start 0
+abbrev pub T4 : List ℕ
+T4 = 1 ∷ 0 ∷ 0 ∷ 7 ∷ []

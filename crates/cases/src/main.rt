@@ -1,0 +1,200 @@
+// Runs the cases A to J of document 01 through the calls and writes a line for each: the answer, and the bytes that the call wrote. The tables
+// and readings are those of specs/, which the one proof over the cases covers.
+
+ghost use mathlib.Core.Path.{_≡_};
+ghost use Rattle.cases.specs.Tables.{T1, T2, T3, T4};
+ghost use Rattle.cases.specs.Cases.{B-reading, C-reading, D-reading, F-reading, G-rival};
+use libc::STDOUT_FILENO;
+use table::Answer;
+
+fn t1() -> [u8; 40]
+    ensures { λ r. ⌜ r ≡ T1 ⌝ }
+{
+    *b"\x02\x61\x61\x01\x02\x61\x61\x00\x02\x62\x62\x00\x04\x01\x02\x02\x02\x62\x62\x00\x02\x63\x63\x00\x04\x04\x05\x03\x03\x00\x03\x00\x03\x07\x06\x00\x05\x08\x00\x00"
+}
+
+fn t2() -> [u8; 36]
+    ensures { λ r. ⌜ r ≡ T2 ⌝ }
+{
+    *b"\x02\x61\x61\x00\x01\x00\x00\x00\x03\x00\x01\x00\x02\x62\x62\x00\x02\x61\x61\x00\x02\x62\x62\x00\x04\x04\x05\x00\x03\x03\x06\x00\x04\x02\x07\x00"
+}
+
+fn t3() -> [u8; 8]
+    ensures { λ r. ⌜ r ≡ T3 ⌝ }
+{
+    *b"\x01\x00\x00\x00\x05\x00\x00\x00"
+}
+
+fn t4() -> [u8; 4]
+    ensures { λ r. ⌜ r ≡ T4 ⌝ }
+{
+    *b"\x01\x00\x00\x07"
+}
+
+fn b_reading() -> [u8; 12]
+    ensures { λ r. ⌜ r ≡ B-reading ⌝ }
+{
+    *b"\x05\x01\x02\x00\x03\x00\x04\x00\x01\x61\x01\x62"
+}
+
+fn c_reading() -> [u8; 16]
+    ensures { λ r. ⌜ r ≡ C-reading ⌝ }
+{
+    *b"\x05\x02\x02\x00\x02\x00\x01\x61\x03\x00\x04\x00\x01\x62\x01\x63"
+}
+
+fn d_reading() -> [u8; 26]
+    ensures { λ r. ⌜ r ≡ D-reading ⌝ }
+{
+    *b"\x05\x03\x02\x00\x02\x00\x01\x61\x03\x00\x04\x00\x01\x62\x01\x63\x02\x00\x03\x00\x04\x00\x01\x61\x01\x62"
+}
+
+fn f_reading() -> [u8; 10]
+    ensures { λ r. ⌜ r ≡ F-reading ⌝ }
+{
+    *b"\x04\x00\x02\x00\x01\x61\x02\x00\x01\x62"
+}
+
+fn g_rival() -> [u8; 14]
+    ensures { λ r. ⌜ r ≡ G-rival ⌝ }
+{
+    *b"\x04\x00\x03\x00\x00\x00\x03\x00\x04\x00\x01\x61\x01\x62"
+}
+
+// An answer: `gives` and the result, or `refuses`, the number and the detail.
+fn show_answer(answer: Answer) {
+    match answer {
+        Answer::Done(n) => {
+            io::write_all(STDOUT_FILENO, b" gives ");
+            io::print_decimal(STDOUT_FILENO, n as u64);
+        }
+        Answer::Refused(why) => {
+            let numbers = table::numbers_of(why);
+            io::write_all(STDOUT_FILENO, b" refuses ");
+            io::print_decimal(STDOUT_FILENO, numbers.number as u64);
+            io::write_all(STDOUT_FILENO, b" ");
+            io::print_decimal(STDOUT_FILENO, numbers.detail as u64);
+        }
+    }
+}
+
+fn wide(byte: u8) -> u64 {
+    byte as u64
+}
+
+// The bytes of a buffer in hexadecimal, and the end of the line.
+fn show_bytes(bytes: &[u8]) {
+    let mut i = 0;
+    while i < bytes.len() {
+        io::write_all(STDOUT_FILENO, b" ");
+        io::print_hex(STDOUT_FILENO, wide(bytes[i]), 2);
+        i += 1;
+    }
+    io::write_all(STDOUT_FILENO, b"\n");
+}
+
+fn run_check(name: &[u8], bytes: &[u8]) {
+    io::write_all(STDOUT_FILENO, name);
+    show_answer(table::check(bytes));
+    show_bytes(b"");
+}
+
+// Each call below is lent a buffer of 32 bytes of 0xee and shows all of it afterwards; a work area has 210 bytes, what T1 needs for a line of 5.
+fn run_read(name: &[u8], bytes: &[u8], start: usize, line: &[u8]) {
+    let mut work = [0u8; 210];
+    let mut out = [0xeeu8; 32];
+    io::write_all(STDOUT_FILENO, name);
+    show_answer(matcher::read(bytes, start, line, &mut work, &mut out));
+    show_bytes(&out);
+}
+
+fn run_spell(name: &[u8], bytes: &[u8], start: usize, reading: &[u8]) {
+    let mut out = [0xeeu8; 32];
+    io::write_all(STDOUT_FILENO, name);
+    show_answer(reading::spell(bytes, start, reading, &mut out));
+    show_bytes(&out);
+}
+
+fn run_tokens(name: &[u8], bytes: &[u8], start: usize, reading: &[u8]) {
+    let mut out = [0xeeu8; 32];
+    io::write_all(STDOUT_FILENO, name);
+    show_answer(tokens::tokens(bytes, start, reading, &mut out));
+    show_bytes(&out);
+}
+
+fn run_compare(name: &[u8], bytes: &[u8], start: usize, first: &[u8], second: &[u8]) {
+    io::write_all(STDOUT_FILENO, name);
+    show_answer(ranking::compare(bytes, start, first, second));
+    show_bytes(b"");
+}
+
+// Earlier hands back the lent reading that ranks ahead.
+fn run_earlier<'a>(name: &[u8], bytes: &[u8], start: usize, first: &'a [u8], second: &'a [u8]) {
+    io::write_all(STDOUT_FILENO, name);
+    show_bytes(ranking::earlier(bytes, start, first, second));
+}
+
+fn run_t1() {
+    let table = t1();
+    run_check(b"T1", &table);
+    run_read(b"A", &table, 9, b"");
+    run_read(b"B", &table, 9, b"ab");
+    run_spell(b"B spelled", &table, 9, &b_reading());
+    run_read(b"C", &table, 9, b"abc");
+    run_spell(b"C spelled", &table, 9, &c_reading());
+}
+
+fn run_t1_more() {
+    let table = t1();
+    run_read(b"D", &table, 9, b"abcab");
+    run_tokens(b"D tokens", &table, 9, &d_reading());
+    run_read(b"E", &table, 9, b"b");
+}
+
+fn run_t2() {
+    let table = t2();
+    let best = f_reading();
+    let rival = g_rival();
+    run_check(b"T2", &table);
+    run_read(b"F", &table, 8, b"ab");
+    run_compare(b"G", &table, 8, &best, &rival);
+    run_compare(b"G the other way round", &table, 8, &rival, &best);
+    run_compare(b"F against itself", &table, 8, &best, &best);
+}
+
+fn run_t2_more() {
+    let table = t2();
+    let best = f_reading();
+    let rival = g_rival();
+    run_earlier(b"G earlier", &table, 8, &rival, &best);
+    run_earlier(
+        b"G earlier, one that does not fit",
+        &table,
+        8,
+        &best,
+        b"\x00\x00",
+    );
+}
+
+fn run_t3() {
+    let table = t3();
+    run_check(b"T3", &table);
+    run_spell(b"H", &table, 1, b"\x05\x01\x00\x00");
+    run_read(b"I", &table, 1, b"");
+}
+
+fn run_t4() {
+    let table = t4();
+    run_check(b"T4", &table);
+    run_read(b"J", &table, 0, b"");
+    run_tokens(b"J tokens", &table, 0, b"\x00\x00");
+}
+
+fn main() {
+    run_t1();
+    run_t1_more();
+    run_t2();
+    run_t2_more();
+    run_t3();
+    run_t4();
+}

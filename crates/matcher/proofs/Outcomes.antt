@@ -1,0 +1,229 @@
+-- Read's ways out: what each says, and what it leaves in the work area and in the output buffer.
+-- Assumes nothing.
+use Prim.Native.Nat.{ℕ, _+_, _≤_, _<_}
+use native.Mathlib.Nat.{le-refl}
+use native.Mathlib.Omega.{arith}
+use borrow.Author.Tests.{lt-ltb, le-ltb}
+use mathlib.Core.Path.{_≡_, refl, sym, _∙_, ap, subst}
+use mathlib.Core.Bool.{Bool, true, false, true≢false}
+use mathlib.Core.List.{List, _++_}
+use lib.Dec.{ltb}
+use lib.ListN.{length, drop}
+use Rattle.regex.specs.Expressions.{Exp}
+use Rattle.regex.specs.Values.{Val, records, Reads}
+use Rattle.regex.specs.Relation.{Posix}
+use Rattle.regex.specs.Decision.{Parsed, missing, spells, parse}
+use Rattle.regex.proofs.Spells.{spells-complete}
+use Rattle.regex.proofs.Flats.{posix-reads}
+use Rattle.regex.proofs.Ahead.{posix-unbeaten}
+use Rattle.regex.proofs.Found.{parse-found, parse-none}
+use Rattle.table.specs.declared.Refusal.{Refusal}
+use Rattle.table.specs.declared.Answer.{Answer}
+use Rattle.table.specs.declared.Answer.the-variants.{Refused}
+use Rattle.table.specs.Records.{count}
+use Rattle.table.specs.Answers.{Said, gives, refuses, refusal, says}
+use Rattle.table.specs.Checked.{orElse}
+use Rattle.table.specs.Expression.{expOf}
+use Rattle.table.proofs.Passing.{count-bound}
+use Rattle.area.specs.Area.{areaSize, rowAt, tells, Told}
+use Rattle.area.proofs.Places.{areaSize-formula, row-inside}
+use Rattle.reading.specs.Codec.{fits, encode, decode}
+use Rattle.reading.specs.Fitting.{spelled}
+use Rattle.reading.specs.Calls.{ifStart, ifRoom, after, bytesOf}
+use Rattle.reading.proofs.Codec.{decode-complete}
+use Rattle.reading.proofs.Lengths.{spelled-fits}
+use Rattle.reading.proofs.Admission.{Admitted, refusal-numbers, not-admitted}
+use Rattle.matcher.specs.Calls.{workSize, readParsed, readSays, readLeaves, keepsWork, PosixWritten, Unbeaten}
+use Rattle.matcher.specs.Walks.{Here, Answered}
+use Rattle.matcher.proofs.Parts.{part-whole}
+use Rattle.matcher.proofs.Positions.{reading}
+
+-- Read's contract, in the order of its clauses
+abbrev pub Outcome : List ℕ → ℕ → List ℕ → List ℕ → List ℕ → List ℕ → List ℕ → Said → Type 0
+Outcome t k s work out work1 out1 said =
+    (said ≡ readSays t k s (length work) (length out))
+    × ((out1 ≡ readLeaves t k s (length work) out)
+    × ((keepsWork (readSays t k s (length work) (length out)) ≡ true → work1 ≡ work)
+    × (((n : ℕ) → said ≡ gives n → PosixWritten t k s out out1 n)
+    × ((n : ℕ) → said ≡ gives n → Unbeaten t k s out out1))))
+
+refuses-gives : {x : Said} {n d m : ℕ} → x ≡ refuses n d → x ≡ gives m → ⊥
+refuses-gives e f = let z : _≡_ {A = ℕ} 0 1 = cc in omega arith
+
+-- a refusal leaves the buffer
+refused :
+    (t : List ℕ) (k : ℕ) (s work out work1 : List ℕ) {said : Said} {n d : ℕ} → said ≡ refuses n d
+    → readSays t k s (length work) (length out) ≡ refuses n d
+    → (keepsWork (refuses n d) ≡ true → work1 ≡ work)
+    → Outcome t k s work out work1 out said
+unfolding readLeaves
+refused t k s work out work1 e f kept = (
+  e ∙ sym f,
+  (
+    sym (ap (λ (x : Said). after x (bytesOf (parse (expOf t k) s) (λ v. encode v)) out) f),
+    (
+      (λ g. kept (ap keepsWork (sym f) ∙ g)),
+      ((λ n g. absurd (refuses-gives e g)), (λ n g. absurd (refuses-gives e g))),
+    ),
+  ),
+)
+
+-- 1 to 6, and 9
+pub outcome-table :
+    (t : List ℕ) (k : ℕ) (s work out : List ℕ) {r : Answer} (why : Refusal) → says r ≡ ifStart t k (gives (count t)) → r ≡ Refused why
+    → Outcome t k s work out work out (refusal why)
+unfolding readSays
+outcome-table t k s work out {r} why e f =
+    let x : (n : ℕ) × (d : ℕ) × (refusal why ≡ refuses n d) = refusal-numbers why in
+    let g : refusal why ≡ readSays t k s (length work) (length out) =
+    not-admitted t k r why e f
+    (orElse (ltb 255 (length s)) (refuses 7 0)
+    (orElse (ltb (length work) (workSize (count t) (length s))) (refuses 10 0) (readParsed (parse (expOf t k) s) (length out)))) in
+    refused t k s work out work (x .2) (sym g ∙ x .2) (λ h. refl)
+
+-- a result says that there was room
+room-gives : (b : Bool) (l m n : ℕ) → orElse b (refuses 11 l) (gives m) ≡ gives n → (b ≡ false) × (n ≡ m)
+room-gives true l m n e = absurd (refuses-gives refl e)
+room-gives false l m n e = (refl, cc)
+
+-- the bytes in front of a buffer are the encoding of one reading only
+same-reading : (r : Exp) {v w : Val} (xs ys : List ℕ) → Reads r v → Reads r w → encode v ++ xs ≡ encode w ++ ys → v ≡ w
+same-reading r {v} {w} xs ys p q e =
+    let f : fits v xs ≡ fits w ys = sym (decode-complete r p xs) ∙ ap (decode r) e ∙ decode-complete r q ys in
+    cc
+
+-- the answer for a spelled line, by its POSIX reading
+module _
+    {t : List ℕ} {k : ℕ} {s out out1 : List ℕ} {said : Said} {v : Val} (w : Answered t s k out out1 said) (p : Posix s (expOf t k) v) {n : ℕ}
+    (e : said ≡ gives n)
+  where
+    gave : (ltb (length out) (length (encode v)) ≡ false) × (n ≡ records v)
+    gave = room-gives (ltb (length out) (length (encode v))) (length (encode v)) (records v) n (sym (w .answer v p) ∙ e)
+
+    in-front : out1 ≡ encode v ++ drop (length (encode v)) out
+    in-front =
+        w .buffer v p
+        ∙ ap (λ (b : Bool). after (orElse b (refuses 11 (length (encode v))) (gives (records v))) (encode v) out) (gave .0)
+
+    -- it is the relation's
+    posix-written : PosixWritten t k s out out1 n
+    posix-written = record { value = v; posix = p; counted = gave .1; written = in-front }
+
+    -- and no other ranks ahead of it
+    unbeaten : Unbeaten t k s out out1
+    unbeaten =
+        record {
+          none-ahead = λ u q f bs rival spells-line.
+              let same : v ≡ u =
+              same-reading (expOf t k) (drop (length (encode v)) out) (drop (length (encode u)) out) (posix-reads p) q (sym in-front ∙ f) in
+              posix-unbeaten (subst (λ (x : Val). Posix s (expOf t k) x) same p) (rival .reads) (sym (spelled-fits rival) ∙ spells-line);
+        }
+
+room-keeps : (b : Bool) (l m : ℕ) → keepsWork (orElse b (refuses 11 l) (gives m)) ≡ true → ⊥
+room-keeps true l m e = true≢false (sym e)
+room-keeps false l m e = true≢false (sym e)
+
+-- what is known of a table that passes with the start record in it
+module _ {t : List ℕ} {k : ℕ} (a : Admitted t k) where
+  -- the number of records is small
+  pub records-few : count t ≤ 65535
+  records-few = omega (arith, count-bound t (a .passes))
+
+  module _ (s work out : List ℕ) where
+    said-admitted :
+        readSays t k s (length work) (length out)
+        ≡ orElse (ltb 255 (length s)) (refuses 7 0)
+        (orElse (ltb (length work) (workSize (count t) (length s))) (refuses 10 0) (readParsed (parse (expOf t k) s) (length out)))
+    unfolding readSays
+    said-admitted = a .said-on _
+
+    -- 7
+    pub outcome-line : 255 < length s → Outcome t k s work out work out (refuses 7 0)
+    outcome-line l = refused t k s work out work refl (said-admitted ∙ rw (lt-ltb 255 (length s) l)) (λ h. refl)
+
+    module _ (short : length s ≤ 255) where
+      -- 10
+      pub outcome-work : length work < areaSize (count t) (length s) → Outcome t k s work out work out (refuses 10 0)
+      outcome-work l =
+          let small : length work < workSize (count t) (length s) = omega (arith, areaSize-formula (count t) (length s)) in
+          refused t k s work out work refl
+          (said-admitted ∙ rw (le-ltb 255 (length s) short, lt-ltb (length work) (workSize (count t) (length s)) small))
+          (λ h. refl)
+
+      module _ (large : areaSize (count t) (length s) ≤ length work) where
+        said-parsed : readSays t k s (length work) (length out) ≡ readParsed (parse (expOf t k) s) (length out)
+        said-parsed =
+            let enough : workSize (count t) (length s) ≤ length work = omega (arith, areaSize-formula (count t) (length s)) in
+            said-admitted ∙ rw (le-ltb 255 (length s) short, le-ltb (length work) (workSize (count t) (length s)) enough)
+
+        module _ {work1 : List ℕ} (told : Told t s work1) (same : length work1 ≡ length work) where
+          -- the facts of the whole line are in the area
+          pub whole-place :
+              (e : ℕ) → e ≤ length s
+              → (count t ≤ 65535) × ((k < count t) × ((length s ≤ 255) × (rowAt (count t) (length s) k + e < length work1)))
+          whole-place e l = (
+            records-few,
+            (a .inside, (short, omega (arith, row-inside (count t) (length s) k (length s) e (a .inside) (le-refl (length s)) l))),
+          )
+
+          whole-fact : {x : Bool} → x ≡ tells (count t) work1 k (length s) (length s) → spells (expOf t k) s ≡ x
+          whole-fact e =
+              ap (spells (expOf t k)) (sym (part-whole s))
+              ∙ sym (told .fact k (length s) (length s) (a .inside) (le-refl (length s)) (le-refl (length s)))
+              ∙ sym e
+
+          -- 8
+          pub outcome-missing :
+              {x : Bool} → x ≡ tells (count t) work1 k (length s) (length s) → x ≡ false → Outcome t k s work out work1 out (refuses 8 0)
+          outcome-missing e f =
+              let none : parse (expOf t k) s ≡ missing =
+              parse-none (expOf t k) s .1
+              (λ l. true≢false (sym (spells-complete (expOf t k) s l) ∙ whole-fact e ∙ f)) in
+              refused t k s work out work1 refl (said-parsed ∙ ap (λ (p : Parsed). readParsed p (length out)) none)
+              (λ h. absurd (true≢false (sym h)))
+
+          -- the start record spells the line
+          pub whole-here :
+              {x : Bool} → x ≡ tells (count t) work1 k (length s) (length s) → x ≡ true → Here t s work1 k (length s) (length s)
+          whole-here e f =
+              record {
+                passes = a .passes;
+                told = told;
+                record-inside = a .inside;
+                short = short;
+                left = le-refl (length s);
+                size = le-refl (length s);
+                spelled = ap (spells (expOf t k)) (part-whole s) ∙ whole-fact e ∙ f;
+              }
+
+          pub whole-area : areaSize (count t) (length s) ≤ length work1
+          whole-area = omega arith
+
+          leaves :
+              (v : Val) → Posix s (expOf t k) v → readSays t k s (length work) (length out) ≡ ifRoom (length out) (encode v) (records v)
+              → readLeaves t k s (length work) out ≡ after (ifRoom (length out) (encode v) (records v)) (encode v) out
+          unfolding readLeaves
+          leaves v p e =
+              ap (λ (x : Said). after x (bytesOf (parse (expOf t k) s) (λ u. encode u)) out) e
+              ∙ ap (λ (x : Parsed). after (ifRoom (length out) (encode v) (records v)) (bytesOf x (λ u. encode u)) out) (parse-found (expOf t k) s v .1 p)
+
+          -- 11, or the reading
+          pub outcome-answered :
+              {out1 : List ℕ} {said : Said} → Here t s work1 k (length s) (length s) → Answered t s k out out1 said
+              → Outcome t k s work out work1 out1 said
+          outcome-answered {out1} {said} h w =
+              answered (reading h .0) (subst (λ (u : List ℕ). Posix u (expOf t k) (reading h .0)) (part-whole s) (reading h .1))
+            where
+              answered : (v : Val) → Posix s (expOf t k) v → Outcome t k s work out work1 out1 said
+              answered v p =
+                  let says-room : readSays t k s (length work) (length out) ≡ ifRoom (length out) (encode v) (records v) =
+                  said-parsed ∙ ap (λ (x : Parsed). readParsed x (length out)) (parse-found (expOf t k) s v .1 p) in (
+                    w .answer v p ∙ sym says-room,
+                    (
+                      w .buffer v p ∙ sym (leaves v p says-room),
+                      (
+                        (λ g. absurd (room-keeps (ltb (length out) (length (encode v))) (length (encode v)) (records v) (ap keepsWork (sym says-room) ∙ g))),
+                        ((λ n g. posix-written w p g), (λ n g. unbeaten w p g)),
+                      ),
+                    ),
+                  )

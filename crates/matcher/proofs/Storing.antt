@@ -1,0 +1,82 @@
+-- Bytes stored one after the other: room for the parts, and the parts joined.
+-- Assumes nothing.
+use Prim.Native.Nat.{ℕ, suc, _+_, _≤_}
+use native.Mathlib.Nat.{add-zero, zero-add}
+use native.Mathlib.Numerals.{add-one}
+use native.Mathlib.Omega.{arith}
+use mathlib.Core.Path.{_≡_, refl, sym, _∙_, ap}
+use mathlib.Core.Bool.{Bool, true, false}
+use mathlib.Core.List.{List, [], _∷_, _++_}
+use lib.ListN.{length, set, drop, length-append}
+use lib.Seq.{sets, length-sets, sets-eq}
+use Rattle.matcher.specs.Walks.{wrote, Room, Stored}
+
+sets-append : (o : List ℕ) (at : ℕ) (xs ys : List ℕ) → sets (sets o at xs) (at + length xs) ys ≡ sets o at (xs ++ ys)
+sets-append o at [] ys = ap (λ (i : ℕ). sets o i ys) (add-zero at)
+sets-append o at (x ∷ xs) ys =
+    let e : at + length (x ∷ xs) ≡ suc at + length xs = omega arith in
+    ap (λ (i : ℕ). sets (sets (set o at x) (suc at) xs) i ys) e ∙ sets-append (set o at x) (suc at) xs ys
+
+wrote-append :
+    (b : Bool) (o : List ℕ) (at : ℕ) (xs ys : List ℕ) → wrote b (wrote b o at xs) (at + length xs) ys ≡ wrote b o at (xs ++ ys)
+wrote-append true o at xs ys = sets-append o at xs ys
+wrote-append false o at xs ys = refl
+
+wrote-length : (b : Bool) (o : List ℕ) (at : ℕ) (xs : List ℕ) → length (wrote b o at xs) ≡ length o
+wrote-length true o at xs = length-sets o at xs
+wrote-length false o at xs = refl
+
+-- bytes at the front of the buffer
+pub wrote-front : (o xs : List ℕ) → length xs ≤ length o → wrote true o 0 xs ≡ xs ++ drop (length xs) o
+wrote-front o xs h = sets-eq xs o 0 (omega arith) ∙ ap (λ (i : ℕ). xs ++ drop i o) (zero-add (length xs))
+
+-- nothing is stored yet
+pub stored-none : (o : List ℕ) (at : ℕ) (b : Bool) → Stored [] o at b o at
+stored-none o at true = record { next = omega arith; buffer = refl }
+stored-none o at false = record { next = omega arith; buffer = refl }
+
+-- one record is stored, or counted
+pub stored-record :
+    (x y : ℕ) (o : List ℕ) (at : ℕ) {b : Bool} → b ≡ true → {o1 : List ℕ} → o1 ≡ set (set o at x) (at + 1) y
+    → Stored (x ∷ y ∷ []) o at b o1 (at + 2)
+stored-record x y o at {b} e f =
+    record {
+      next = refl;
+      buffer = f ∙ ap (λ (i : ℕ). set (set o at x) i y) (add-one at) ∙ ap (λ (z : Bool). wrote z o at (x ∷ y ∷ [])) (sym e);
+    }
+
+pub counted-record :
+    (x y : ℕ) (o : List ℕ) (at : ℕ) {b : Bool} → b ≡ false → {o1 : List ℕ} → o1 ≡ o → Stored (x ∷ y ∷ []) o at b o1 (at + 2)
+counted-record x y o at {b} e f =
+    record { next = refl; buffer = f ∙ ap (λ (z : Bool). wrote z o at (x ∷ y ∷ [])) (sym e) }
+
+module _ {xs o : List ℕ} {at : ℕ} {b : Bool} {o1 : List ℕ} {n : ℕ} (p : Stored xs o at b o1 n) where
+  -- the buffer keeps its length
+  pub stored-length : length o1 ≡ length o
+  stored-length = ap length (p .buffer) ∙ wrote-length b o at xs
+
+  -- bytes stored behind others
+  pub stored-join : {ys o2 : List ℕ} {m : ℕ} → Stored ys o1 n b o2 m → Stored (xs ++ ys) o at b o2 m
+  stored-join {ys} {o2} {m} q =
+      record {
+        next = omega (arith, p .next, q .next, length-append xs ys);
+        buffer =
+            q .buffer ∙ ap (λ (u : List ℕ). wrote b u n ys) (p .buffer) ∙ ap (λ (i : ℕ). wrote b (wrote b o at xs) i ys) (p .next)
+            ∙ wrote-append b o at xs ys;
+      }
+
+-- room for the first of two parts, and for the second behind it
+pub room-first : (xs ys : List ℕ) {o : List ℕ} {at : ℕ} {b : Bool} → Room (xs ++ ys) o at b → Room xs o at b
+room-first xs ys r =
+    record {
+      small = omega (arith, r .small, length-append xs ys);
+      inside = λ e. omega (arith, r .inside e, length-append xs ys);
+    }
+
+pub room-rest :
+    (xs ys : List ℕ) {o : List ℕ} {at : ℕ} {b : Bool} {o1 : List ℕ} {n : ℕ} → Room (xs ++ ys) o at b → Stored xs o at b o1 n → Room ys o1 n b
+room-rest xs ys r p =
+    record {
+      small = omega (arith, r .small, p .next, length-append xs ys);
+      inside = λ e. omega (arith, r .inside e, p .next, length-append xs ys, stored-length p);
+    }

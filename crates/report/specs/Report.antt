@@ -1,0 +1,71 @@
+-- What the program prints (document 01, "The program and the host"): "A refused table prints `table refused` and the number, and nothing more.
+-- For each line it prints `line`, its number from 1, then `ok` and the token count or `refused` and the number; then each token's tag, offset
+-- and length on a line of its own. One space parts the items, and byte 10 ends every printed line."
+-- Assumes nothing.
+use Prim.Native.Nat.{ℕ}
+use mathlib.Core.List.{List, [], _∷_, _++_}
+use lib.ListN.{length}
+use Rattle.regex.specs.Decision.{Parsed, found, missing, parse}
+use Rattle.table.specs.Answers.{Said, gives, refuses}
+use Rattle.table.specs.Checked.{checked}
+use Rattle.table.specs.Expression.{expOf}
+use Rattle.reading.specs.Codec.{encode}
+use Rattle.reading.specs.Calls.{bytesOf}
+use Rattle.tokens.specs.Tokens.{Token, tokensFrom}
+use Rattle.tokens.specs.Listed.{tokensSays}
+use Rattle.matcher.specs.Calls.{readSays}
+use Rattle.report.specs.Text.{decimal, lineWord, okWord, refusedWord, tableWord}
+
+-- "Its work area is 65,536 bytes, reading buffer 32,768, token buffer 4,096."
+abbrev pub workLength : ℕ
+workLength = 65536
+
+abbrev pub readingLength : ℕ
+readingLength = 32768
+
+abbrev pub tokenLength : ℕ
+tokenLength = 4096
+
+-- a token's line: tag, offset, length
+abbrev pub tokenLine : Token → List ℕ
+tokenLine x = decimal (x .tag) ++ (0x20 ∷ (decimal (x .offset) ++ (0x20 ∷ (decimal (x .size) ++ (10 ∷ [])))))
+
+abbrev pub tokenLines : List Token → List ℕ
+tokenLines [] = []
+tokenLines (x ∷ xs) = tokenLine x ++ tokenLines xs
+
+-- a line that was refused
+abbrev pub refusedLine : ℕ → ℕ → List ℕ
+refusedLine number r = lineWord ++ (decimal number ++ (refusedWord ++ (decimal r ++ (10 ∷ []))))
+
+-- a line that was read, and its tokens
+abbrev pub okLine : ℕ → List Token → List ℕ
+okLine number xs = lineWord ++ (decimal number ++ (okWord ++ (decimal (length xs) ++ (10 ∷ tokenLines xs))))
+
+-- by what Tokens says
+abbrev pub listed : ℕ → Said → List Token → List ℕ
+listed number (gives n) xs = okLine number xs
+listed number (refuses r d) xs = refusedLine number r
+
+-- the tokens of the line's reading
+abbrev pub lineTokens : List ℕ → ℕ → Parsed → List Token
+lineTokens t k (found v) = tokensFrom t k v 0
+lineTokens t k missing = []
+
+-- by what Read says
+abbrev pub reported : List ℕ → ℕ → ℕ → List ℕ → Said → List ℕ
+reported t k number s (gives n) =
+    listed number (tokensSays t k (bytesOf (parse (expOf t k) s) (λ v. encode v)) tokenLength) (lineTokens t k (parse (expOf t k) s))
+reported t k number s (refuses r d) = refusedLine number r
+
+-- what is printed for line s with its number, by table t from record k
+unfoldable pub lineReport : List ℕ → ℕ → ℕ → List ℕ → List ℕ
+lineReport t k number s = reported t k number s (readSays t k s workLength readingLength)
+
+-- what is printed for a table: nothing where it passes
+abbrev pub tableSaid : Said → List ℕ
+tableSaid (gives m) = []
+tableSaid (refuses r d) = tableWord ++ (refusedWord ++ (decimal r ++ (10 ∷ [])))
+
+unfoldable pub tableReport : List ℕ → List ℕ
+tableReport t = tableSaid (checked t)

@@ -1,0 +1,218 @@
+// What the program prints for a table and for a line.
+
+ghost use Prim.Native.Nat.{ℕ, _+_, _*_, _≤_, _<_, min};
+ghost use mathlib.Core.Path.{_≡_};
+ghost use mathlib.Core.List.{List, [], _∷_, _++_};
+ghost use lib.ListN.{length, take, drop};
+ghost use Rattle.table.specs.Answers.{refuses, refusal};
+ghost use Rattle.tokens.specs.Tokens.{Token, tokenBytes};
+ghost use Rattle.report.specs.Text.{decimal, okWord, refusedWord, tableWord};
+ghost use Rattle.report.specs.Report.{tokenLine, tokenLines, refusedLine, workLength, readingLength, tokenLength, lineReport, tableReport};
+ghost use Rattle.report.specs.Writes.{Wrote, lineWith, readingReport};
+use table::Answer;
+use table::Refusal;
+
+// Writes a byte at a position and returns the next position.
+fn put_byte(out: &mut [u8], at: usize, b: u8) -> usize
+    requires { ⌜ at < length (now out) ⌝ }
+    ensures { λ r. ⌜ Wrote (now (out .entry)) (now (out .exit)) at r (b ∷ []) ⌝ }
+{
+    out[at] = b;
+    at + 1
+}
+
+// Writes a text at a position and returns the next position.
+fn put_text(out: &mut [u8], at: usize, text: &[u8]) -> usize
+    requires { ⌜ at + length (now text) ≤ length (now out) ⌝ }
+    ensures { λ r. ⌜ Wrote (now (out .entry)) (now (out .exit)) at r (now (text .entry)) ⌝ }
+{
+    let mut i = 0;
+    while i < text.len() {
+        out[at + i] = text[i];
+        i += 1;
+    }
+    at + i
+}
+
+// Writes a number in decimal at a position and returns the next position.
+fn put_decimal(out: &mut [u8], at: usize, n: u64) -> usize
+    requires { ⌜ at + length (decimal n) ≤ length (now out) ⌝ }
+    ensures { λ r. ⌜ Wrote (now (out .entry)) (now (out .exit)) at r (decimal n) ⌝ }
+{
+    if n < 10 {
+        return put_byte(out, at, (48 + n) as u8);
+    }
+    let next = put_decimal(out, at, n / 10);
+    put_byte(out, next, (48 + n % 10) as u8)
+}
+
+// Writes a token's line at a position and returns the next position.
+fn put_token(out: &mut [u8], at: usize, tag: u8, offset: u8, size: u8) -> usize
+    requires { ⌜ at + 12 ≤ length (now out) ⌝ }
+    ensures { λ r. ⌜ Wrote (now (out .entry)) (now (out .exit)) at r (tokenLine (record { tag = tag; offset = offset; size = size })) ⌝ }
+{
+    let tag_end = put_decimal(out, at, tag as u64);
+    let offset_at = put_byte(out, tag_end, b' ');
+    let offset_end = put_decimal(out, offset_at, offset as u64);
+    let size_at = put_byte(out, offset_end, b' ');
+    let size_end = put_decimal(out, size_at, size as u64);
+    put_byte(out, size_end, b'\n')
+}
+
+// Writes the lines of so many tokens, whose records of 3 bytes stand in front of the slice, at a position and returns the next position.
+fn put_tokens(out: &mut [u8], at: usize, tokens: &[u8], count: usize) -> usize
+    requires tokens { ⌜ 3 * count ≤ length (now tokens) ⌝ }
+    requires room { ⌜ at + 12 * count ≤ length (now out) ⌝ }
+    ensures bound { λ r. ⌜ r ≤ at + 12 * count ⌝ }
+    ensures lines { λ r.
+        ⌜ ((xs : List Token) → take (3 * count) (now (tokens .entry)) ≡ tokenBytes xs
+        → Wrote (now (out .entry)) (now (out .exit)) at r (tokenLines xs)) ⌝ }
+{
+    let mut next = at;
+    let mut i = 0;
+    while i < count {
+        next = put_token(
+            out,
+            next,
+            tokens[3 * i],
+            tokens[3 * i + 1],
+            tokens[3 * i + 2],
+        );
+        i += 1;
+    }
+    next
+}
+
+// Writes a line's own printed line to the front: its number, a word and a number.
+fn put_line(out: &mut [u8], number: u64, word: &[u8], n: u64) -> usize
+    requires { ⌜ 46 + length (now word) ≤ length (now out) ⌝ }
+    ensures bound { λ r. ⌜ r ≤ 46 + length (now (word .entry)) ⌝ }
+    ensures line { λ r. ⌜ Wrote (now (out .entry)) (now (out .exit)) 0 r (lineWith number (now (word .entry)) n) ⌝ }
+{
+    let number_at = put_text(out, 0, b"line ");
+    let word_at = put_decimal(out, number_at, number);
+    let n_at = put_text(out, word_at, word);
+    let n_end = put_decimal(out, n_at, n);
+    put_byte(out, n_end, b'\n')
+}
+
+// Writes the printed line of a line that was refused.
+fn put_refused(out: &mut [u8], number: u64, refusal: u64) -> usize
+    requires { ⌜ 64 ≤ length (now out) ⌝ }
+    ensures bound { λ r. ⌜ r ≤ 64 ⌝ }
+    ensures line { λ r. ⌜ Wrote (now (out .entry)) (now (out .exit)) 0 r (refusedLine number refusal) ⌝ }
+{
+    put_line(out, number, b" refused ", refusal)
+}
+
+// Writes the printed line of a line that was read, before its tokens.
+fn put_ok(out: &mut [u8], number: u64, count: u64) -> usize
+    requires { ⌜ 64 ≤ length (now out) ⌝ }
+    ensures bound { λ r. ⌜ r ≤ 64 ⌝ }
+    ensures line { λ r. ⌜ Wrote (now (out .entry)) (now (out .exit)) 0 r (lineWith number okWord count) ⌝ }
+{
+    put_line(out, number, b" ok ", count)
+}
+
+// Writes the printed line of a table that was refused.
+fn put_table(out: &mut [u8], refusal: u64) -> usize
+    requires { ⌜ 64 ≤ length (now out) ⌝ }
+    ensures bound { λ r. ⌜ r ≤ 64 ⌝ }
+    ensures line { λ r. ⌜ Wrote (now (out .entry)) (now (out .exit)) 0 r (tableWord ++ (refusedWord ++ (decimal refusal ++ (10 ∷ [])))) ⌝ }
+{
+    let refusal_at = put_text(out, 0, b"table refused ");
+    let refusal_end = put_decimal(out, refusal_at, refusal);
+    put_byte(out, refusal_end, b'\n')
+}
+
+// A refusal's number.
+fn refusal_number(why: Refusal) -> u64
+    ensures { λ r. ⌜ ((n d : ℕ) → refusal why ≡ refuses n d → r ≡ n) ⌝ }
+{
+    let numbers = table::numbers_of(why);
+    numbers.number as u64
+}
+
+// Writes what is printed for a line whose reading is given, and returns its length.
+fn report_reading(
+    table: &[u8],
+    start: usize,
+    number: u64,
+    reading: &[u8],
+    list: &mut [u8],
+    out: &mut [u8],
+) -> usize
+    requires list { ⌜ length (now list) ≡ tokenLength ⌝ }
+    requires out { ⌜ 32768 ≤ length (now out) ⌝ }
+    ensures bound { λ r. ⌜ r ≤ 32768 ⌝ }
+    ensures lines { λ r.
+        ⌜ Wrote (now (out .entry)) (now (out .exit)) 0 r (readingReport (now (table .entry)) start number (now (reading .entry))) ⌝ }
+{
+    match tokens::tokens(table, start, reading, list) {
+        Answer::Done(count) => {
+            let at = put_ok(out, number, count as u64);
+            put_tokens(out, at, list, count)
+        }
+        Answer::Refused(why) => put_refused(out, number, refusal_number(why)),
+    }
+}
+
+// Writes what is printed for a line to the front of the buffer and returns its length.
+pub fn report_line(
+    table: &[u8],
+    start: usize,
+    number: u64,
+    line: &[u8],
+    work: &mut [u8],
+    reading: &mut [u8],
+    tokens: &mut [u8],
+    out: &mut [u8],
+) -> usize
+    requires work { ⌜ length (now work) ≡ workLength ⌝ }
+    requires reading { ⌜ length (now reading) ≡ readingLength ⌝ }
+    requires tokens { ⌜ length (now tokens) ≡ tokenLength ⌝ }
+    requires out { ⌜ 32768 ≤ length (now out) ⌝ }
+    ensures bound { λ r. ⌜ r ≤ 32768 ⌝ }
+    ensures size { λ r. ⌜ r ≡ length (lineReport (now (table .entry)) start number (now (line .entry))) ⌝ }
+    ensures buffer { λ _.
+        ⌜ now (out .exit)
+        ≡ lineReport (now (table .entry)) start number (now (line .entry))
+        ++ drop (length (lineReport (now (table .entry)) start number (now (line .entry)))) (now (out .entry)) ⌝ }
+{
+    match matcher::read(table, start, line, work, reading) {
+        Answer::Done(records) => {
+            let end = 2 * records;
+            report_reading(table, start, number, &reading[..end], tokens, out)
+        }
+        Answer::Refused(why) => put_refused(out, number, refusal_number(why)),
+    }
+}
+
+// Writes what is printed for a table to the front of the buffer and returns its length: 0 for a table that passes.
+pub fn report_table(table: &[u8], out: &mut [u8]) -> usize
+    requires { ⌜ 64 ≤ length (now out) ⌝ }
+    ensures bound { λ r. ⌜ r ≤ 64 ⌝ }
+    ensures size { λ r. ⌜ r ≡ length (tableReport (now (table .entry))) ⌝ }
+    ensures buffer { λ _.
+        ⌜ now (out .exit)
+        ≡ tableReport (now (table .entry)) ++ drop (length (tableReport (now (table .entry)))) (now (out .entry)) ⌝ }
+{
+    match table::check(table) {
+        Answer::Done(_) => 0,
+        Answer::Refused(why) => put_table(out, refusal_number(why)),
+    }
+}
+
+// Takes a byte of the input into the line, of which the first 256 bytes are kept, and returns the number of bytes kept.
+pub fn take_byte(line: &mut [u8], size: usize, b: u8) -> usize
+    requires line { ⌜ length (now line) ≡ 256 ⌝ }
+    requires size { ⌜ size ≤ 256 ⌝ }
+    ensures size { λ r. ⌜ r ≡ min (size + 1) 256 ⌝ }
+    ensures kept { λ r. ⌜ take r (now (line .exit)) ≡ take 256 (take size (now (line .entry)) ++ (b ∷ [])) ⌝ }
+{
+    if size < 256 {
+        line[size] = b;
+        return size + 1;
+    }
+    size
+}

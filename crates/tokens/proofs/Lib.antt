@@ -1,0 +1,6 @@
+-- Tokens: the laws that upper crates cite.
+pub mod Counts
+pub mod Text
+pub mod Writing
+pub mod Walks
+pub mod Calls

@@ -1,0 +1,75 @@
+-- The tokens of a reading (document 01, "Tokens"): "Tokens walks a fitting reading from the start record, parent first. At a tagged record it
+-- writes 3 bytes (tag, offset of the part in the line, length) and doesn't go inside. A part of length 0 is written too."
+-- Assumes nothing.
+use Prim.Native.Nat.{ℕ, zero, suc, _+_}
+use mathlib.Core.List.{List, [], _∷_, _++_}
+use lib.ListN.{length, take, drop}
+use Rattle.regex.specs.Values.{Val, void, byte, left, right, pair, none, more, flat}
+use Rattle.table.specs.Records.{aAt, bAt, tagAt}
+
+-- a token: the tag, and the part's offset in the line and its length
+pub record Token : Type 0 where
+  pub tag : ℕ
+  pub offset : ℕ
+  pub size : ℕ
+
+-- the tokens of a part by its record's tag: those below it if there is none (0), otherwise the part alone
+abbrev pub outermost : ℕ → ℕ → ℕ → List Token → List Token
+outermost zero at n below = below
+outermost (suc tag) at n below = record { tag = suc tag; offset = at; size = n } ∷ []
+
+-- the tokens below record k, of a reading whose part starts at an offset of the line. What follows an iteration is a reading of the same Star.
+abbrev pub tokensBelow : List ℕ → ℕ → Val → ℕ → List Token
+tokensBelow t k void at = []
+tokensBelow t k (byte c) at = []
+tokensBelow t k (left v) at = outermost (tagAt t (aAt t k)) at (length (flat v)) (tokensBelow t (aAt t k) v at)
+tokensBelow t k (right v) at = outermost (tagAt t (bAt t k)) at (length (flat v)) (tokensBelow t (bAt t k) v at)
+tokensBelow t k (pair v w) at =
+    outermost (tagAt t (aAt t k)) at (length (flat v)) (tokensBelow t (aAt t k) v at)
+    ++ outermost (tagAt t (bAt t k)) (at + length (flat v)) (length (flat w)) (tokensBelow t (bAt t k) w (at + length (flat v)))
+tokensBelow t k none at = []
+tokensBelow t k (more v w) at =
+    outermost (tagAt t (aAt t k)) at (length (flat v)) (tokensBelow t (aAt t k) v at) ++ tokensBelow t k w (at + length (flat v))
+
+-- the tokens of record k's reading v whose part starts at an offset of the line
+abbrev pub tokensFrom : List ℕ → ℕ → Val → ℕ → List Token
+tokensFrom t k v at = outermost (tagAt t k) at (length (flat v)) (tokensBelow t k v at)
+
+-- a token's 3 bytes
+abbrev pub tokenBytes : List Token → List ℕ
+tokenBytes [] = []
+tokenBytes (x ∷ xs) = (x .tag) ∷ ((x .offset) ∷ ((x .size) ∷ tokenBytes xs))
+
+-- a tagged part: its tag and its value
+pub record Tagged : Type 0 where
+  pub tag : ℕ
+  pub value : Val
+
+-- the outermost tagged parts of record k's reading v, parent first, without their places in the line
+abbrev pub outermostPart : ℕ → Val → List Tagged → List Tagged
+outermostPart zero v below = below
+outermostPart (suc tag) v below = record { tag = suc tag; value = v } ∷ []
+
+abbrev pub taggedBelow : List ℕ → ℕ → Val → List Tagged
+taggedBelow t k void = []
+taggedBelow t k (byte c) = []
+taggedBelow t k (left v) = outermostPart (tagAt t (aAt t k)) v (taggedBelow t (aAt t k) v)
+taggedBelow t k (right v) = outermostPart (tagAt t (bAt t k)) v (taggedBelow t (bAt t k) v)
+taggedBelow t k (pair v w) =
+    outermostPart (tagAt t (aAt t k)) v (taggedBelow t (aAt t k) v) ++ outermostPart (tagAt t (bAt t k)) w (taggedBelow t (bAt t k) w)
+taggedBelow t k none = []
+taggedBelow t k (more v w) = outermostPart (tagAt t (aAt t k)) v (taggedBelow t (aAt t k) v) ++ taggedBelow t k w
+
+abbrev pub taggedParts : List ℕ → ℕ → Val → List Tagged
+taggedParts t k v = outermostPart (tagAt t k) v (taggedBelow t k v)
+
+-- a token with the bytes of the line that stand at its place, and a tagged part with the bytes that it spells
+pub record Named : Type 0 where
+  pub tag : ℕ
+  pub text : List ℕ
+
+abbrev pub textAt : List ℕ → Token → Named
+textAt s x = record { tag = x .tag; text = take (x .size) (drop (x .offset) s) }
+
+abbrev pub textOf : Tagged → Named
+textOf x = record { tag = x .tag; text = flat (x .value) }

@@ -1,0 +1,73 @@
+-- What the calls that write do where they answer and where they refuse (demands 1 and 2).
+-- Assumes nothing.
+use Prim.Native.Nat.{ℕ, _≤_}
+use mathlib.Core.Path.{_≡_, refl, sym, _∙_, ap}
+use mathlib.Core.Bool.{Bool, true, false, not}
+use mathlib.Core.List.{List, _++_}
+use native.Mathlib.Omega.{arith}
+use lib.Dec.{ltb}
+use lib.ListN.{length, drop}
+use Rattle.regex.specs.Values.{Val, flat, records}
+use Rattle.regex.specs.Relation.{Posix}
+use Rattle.regex.specs.Decision.{Parsed, found, missing, parse}
+use Rattle.regex.proofs.Parse.{parse-sound}
+use Rattle.table.specs.Records.{count}
+use Rattle.table.specs.Expression.{expOf}
+use Rattle.table.specs.Answers.{Said, gives, refuses}
+use Rattle.table.specs.Checked.{orElse, checked}
+use Rattle.reading.specs.Codec.{encode}
+use Rattle.reading.specs.Calls.{ifPassed, ifStart, ifRoom, after, bytesOf, spellSays, spellLeaves}
+use Rattle.tokens.specs.Listed.{tokensSays, tokensLeaves}
+use Rattle.matcher.specs.Calls.{workSize, readParsed, readSays, readLeaves}
+
+-- a refusal leaves the buffer as it was
+after-refusal : (said : Said) (n d : ℕ) (bytes out : List ℕ) → said ≡ refuses n d → after said bytes out ≡ out
+after-refusal said n d bytes out e = rw e
+
+pub spell-refused : (t : List ℕ) (k : ℕ) (bs out : List ℕ) (n d : ℕ) → spellSays t k bs (length out) ≡ refuses n d → spellLeaves t k bs out ≡ out
+unfolding spellLeaves
+spell-refused t k bs out n d e = after-refusal (spellSays t k bs (length out)) n d _ out e
+
+pub tokens-refused : (t : List ℕ) (k : ℕ) (bs out : List ℕ) (n d : ℕ) → tokensSays t k bs (length out) ≡ refuses n d → tokensLeaves t k bs out ≡ out
+unfolding tokensLeaves
+tokens-refused t k bs out n d e = after-refusal (tokensSays t k bs (length out)) n d _ out e
+
+pub read-refused : (t : List ℕ) (k : ℕ) (s : List ℕ) (work : ℕ) (out : List ℕ) (n d : ℕ) → readSays t k s work (length out) ≡ refuses n d → readLeaves t k s work out ≡ out
+unfolding readLeaves
+read-refused t k s work out n d e = after-refusal (readSays t k s work (length out)) n d _ out e
+
+-- the reading that Read wrote
+pub record Written (t : List ℕ) (k : ℕ) (s : List ℕ) (work : ℕ) (out : List ℕ) (n : ℕ) : Type 0 where
+  pub value : Val
+  pub posix : Posix s (expOf t k) value
+  pub counted : n ≡ records value
+  pub front : readLeaves t k s work out ≡ encode value ++ drop (length (encode value)) out
+
+-- what comes behind a test that is not true, where the whole gives a result
+gives-or : (b : Bool) (n d : ℕ) (said : Said) (m : ℕ) → orElse b (refuses n d) said ≡ gives m → said ≡ gives m
+gives-or true n d said m e = let z : _≡_ {A = ℕ} 0 1 = cc in absurd (omega arith)
+gives-or false n d said m e = e
+
+gives-passed : (x said : Said) (m : ℕ) → ifPassed x said ≡ gives m → said ≡ gives m
+gives-passed (gives c) said m e = e
+gives-passed (refuses n d) said m e = let z : _≡_ {A = ℕ} 0 1 = cc in absurd (omega arith)
+
+-- where Read gives a result, it wrote the reading that the relation gives the line
+pub read-writes : (t : List ℕ) (k : ℕ) (s : List ℕ) (work : ℕ) (out : List ℕ) (n : ℕ) → readSays t k s work (length out) ≡ gives n → Written t k s work out n
+unfolding readSays readLeaves
+read-writes t k s work out n e = go (parse (expOf t k) s) refl
+  where
+    read : readParsed (parse (expOf t k) s) (length out) ≡ gives n
+    read =
+        gives-or (ltb work (workSize (count t) (length s))) 10 0 _ n
+        (gives-or (ltb 255 (length s)) 7 0 _ n (gives-or (not (ltb k (count t))) 9 0 _ n (gives-passed (checked t) _ n e)))
+
+    go : (x : Parsed) → parse (expOf t k) s ≡ x → Written t k s work out n
+    go missing f =
+        let z : refuses 8 0 ≡ gives n = sym (ap (λ (y : Parsed). readParsed y (length out)) f) ∙ read in
+        let y : _≡_ {A = ℕ} 0 1 = cc in
+        absurd (omega arith)
+    go (found v) f =
+        let z : ifRoom (length out) (encode v) (records v) ≡ gives n = sym (ap (λ (y : Parsed). readParsed y (length out)) f) ∙ read in
+        let y : gives (records v) ≡ gives n = gives-or (ltb (length out) (length (encode v))) 11 (length (encode v)) _ n z in
+        record { value = v; posix = parse-sound (expOf t k) s v f; counted = cc; front = rw (e, f) }

@@ -1,0 +1,157 @@
+-- Every answer fits the 64-bit number that a C caller is given: results and details are below 2^32.
+-- Assumes nothing.
+use Prim.Native.Nat.{ℕ, zero, suc, _+_, _*_, _≤_, _<_, _%_, max}
+use mathlib.Core.Path.{_≡_, refl, sym, _∙_, ap, subst}
+use mathlib.Core.Bool.{Bool, true, false, not, _||_, false≢true}
+use mathlib.Core.List.{List, [], _∷_, _++_}
+use mathlib.Core.Logic.{_⊎_, inl, inr, ⊎-elim}
+use native.Mathlib.Omega.{arith}
+use borrow.Author.Tests.{ltb-true, ltb-false, not-false}
+use lib.Dec.{ltb, eqb}
+use lib.ListN.{length, length-append}
+use Rattle.regex.specs.Values.{Val, void, byte, left, right, pair, none, more, flat, records, Reads}
+use Rattle.regex.specs.Decision.{Parsed, found, missing, parse}
+use Rattle.regex.specs.Ranking.{Verdict, same, first, second, rank}
+use Rattle.regex.specs.Relation.{Posix}
+use Rattle.regex.proofs.Parse.{parse-sound}
+use Rattle.regex.proofs.Flats.{posix-flat, posix-reads}
+use Rattle.table.specs.Records.{count}
+use Rattle.table.specs.Faults.{Passes, badSize, fault}
+use Rattle.table.specs.Expression.{expOf}
+use Rattle.table.specs.Answers.{Said, gives, refuses}
+use Rattle.trace.specs.Numbers.{Small}
+use Rattle.table.specs.Checked.{orElse, checked, RefusedFor, of-size, of-record}
+use Rattle.table.proofs.Checking.{check-gives, check-refuses}
+use Rattle.table.proofs.Passing.{count-bound, or-false-left, or-false-right}
+use Rattle.reading.specs.Codec.{encode}
+use Rattle.reading.specs.Fitting.{readingOf}
+use Rattle.reading.specs.Calls.{ifPassed, ifStart, ifRoom, ifFits, spellSays}
+use Rattle.reading.proofs.Lengths.{encode-length}
+use Rattle.reading.proofs.Fitting.{reading-sound}
+use Rattle.tokens.specs.Tokens.{tokensFrom, tokenBytes}
+use Rattle.tokens.specs.Listed.{tokensSays}
+use Rattle.tokens.proofs.Counts.{bytes-count, tokens-count, few-records}
+use Rattle.ranking.specs.Answers.{verdictNumber, sameLine, compareParsed, compareSays}
+use Rattle.matcher.specs.Calls.{workSize, readParsed, readSays}
+
+-- either of two
+small-or : (b : Bool) (x y : Said) → Small x → (b ≡ false → Small y) → Small (orElse b x y)
+small-or true x y h g = h
+small-or false x y h g = g refl
+
+-- a table of the right size has few records
+short-table : (t : List ℕ) → badSize t ≡ false → count t ≤ 255
+short-table t e =
+    let a : (ltb 1020 (length t) || not (eqb (length t % 4) 0)) ≡ false = or-false-right (eqb (length t) 0) _ e in
+    let b : ltb 1020 (length t) ≡ false = or-false-left (ltb 1020 (length t)) _ a in
+    let c : length t ≤ 1020 = ltb-false 1020 (length t) b in
+    omega arith
+
+-- a fault's number is one of 2 to 6
+fault-number : (n : ℕ) (t : List ℕ) (k : ℕ) → fault n t k ≡ true → (2 ≤ n) × (n ≤ 6)
+fault-number zero t k e = absurd (false≢true e)
+fault-number (suc zero) t k e = absurd (false≢true e)
+fault-number (suc (suc zero)) t k e = (omega arith, omega arith)
+fault-number (suc (suc (suc zero))) t k e = (omega arith, omega arith)
+fault-number (suc (suc (suc (suc zero)))) t k e = (omega arith, omega arith)
+fault-number (suc (suc (suc (suc (suc zero))))) t k e = (omega arith, omega arith)
+fault-number (suc (suc (suc (suc (suc (suc zero)))))) t k e = (omega arith, omega arith)
+fault-number (suc (suc (suc (suc (suc (suc (suc n))))))) t k e = absurd (false≢true e)
+
+refused-small : (t : List ℕ) (n d : ℕ) → RefusedFor t n d → Small (refuses n d)
+refused-small t n d (of-size p q b) = (omega arith, omega arith, omega arith)
+refused-small t n d (of-record f) = (
+  omega (arith, fault-number n t d (f .found)),
+  omega (arith, fault-number n t d (f .found)),
+  omega (arith, f .inside, short-table t (f .size-right)),
+)
+
+-- Check's answer
+pub small-checked : (t : List ℕ) → Small (checked t)
+small-checked t = go (checked t) refl
+  where
+    go : (said : Said) → checked t ≡ said → Small said
+    go (gives m) e =
+        let p : Passes t × (m ≡ count t) = check-gives t m e in
+        omega (arith, p .1, count-bound t (p .0) .1)
+    go (refuses n d) e = refused-small t n d (check-refuses t n d e)
+
+-- the answers of the calls that take a start number
+pub small-start : (t : List ℕ) (k : ℕ) (said : Said) → (Passes t → k < count t → Small said) → Small (ifStart t k said)
+small-start t k said h = go (checked t) refl
+  where
+    go : (c : Said) → checked t ≡ c → Small (ifPassed c (orElse (not (ltb k (count t))) (refuses 9 0) said))
+    go (gives m) e =
+        small-or (not (ltb k (count t))) (refuses 9 0) said (omega arith, omega arith, omega arith)
+        (λ f. h (check-gives t m e .0) (ltb-true k (count t) (not-false (ltb k (count t)) f)))
+    go (refuses n d) e = refused-small t n d (check-refuses t n d e)
+
+small-room : (room : ℕ) (bytes : List ℕ) (n : ℕ) → length bytes < 4294967296 → n < 4294967296 → Small (ifRoom room bytes n)
+small-room room bytes n h g = small-or (ltb room (length bytes)) (refuses 11 (length bytes)) (gives n) (omega arith, omega arith, h) (λ _. g)
+
+-- Spell's
+pub small-spell : (t : List ℕ) (k : ℕ) (bs : List ℕ) (room : ℕ) → Small (spellSays t k bs room)
+unfolding spellSays
+small-spell t k bs room = small-start t k _ (λ p l. go (readingOf t k bs))
+  where
+    go : (x : Parsed) → Small (ifFits x (λ v. ifRoom room (flat v) (length (flat v))))
+    go missing = (omega arith, omega arith, omega arith)
+    go (found v) =
+        small-or (ltb 255 (length (flat v))) (refuses 13 0) _ (omega arith, omega arith, omega arith)
+        (λ e. let h : length (flat v) ≤ 255 = ltb-false 255 (length (flat v)) e in small-room room (flat v) (length (flat v)) (omega arith) (omega arith))
+
+-- Compare's
+pub small-compare : (t : List ℕ) (k : ℕ) (bs cs : List ℕ) → Small (compareSays t k bs cs)
+unfolding compareSays
+small-compare t k bs cs = small-start t k _ (λ p l. go (readingOf t k bs) (readingOf t k cs))
+  where
+    number-small : (d : Verdict) → verdictNumber d < 4294967296
+    number-small same = omega arith
+    number-small first = omega arith
+    number-small second = omega arith
+
+    go : (x y : Parsed) → Small (compareParsed x y)
+    go missing missing = (omega arith, omega arith, omega arith)
+    go missing (found w) = (omega arith, omega arith, omega arith)
+    go (found v) missing = (omega arith, omega arith, omega arith)
+    go (found v) (found w) =
+        small-or (ltb 255 (length (flat v))) (refuses 13 0) _ (omega arith, omega arith, omega arith)
+        (λ _. small-or (ltb 255 (length (flat w))) (refuses 13 1) _ (omega arith, omega arith, omega arith)
+        (λ _. small-or (not (sameLine (flat v) (flat w))) (refuses 14 0) _ (omega arith, omega arith, omega arith) (λ _. number-small (rank v w))))
+
+-- Tokens'
+pub small-tokens : (t : List ℕ) (k : ℕ) (bs : List ℕ) (room : ℕ) → Small (tokensSays t k bs room)
+unfolding tokensSays
+small-tokens t k bs room = small-start t k _ (λ p l. go p l (readingOf t k bs) refl)
+  where
+    go :
+        Passes t → k < count t → (x : Parsed) → readingOf t k bs ≡ x
+        → Small (ifFits x (λ v. ifRoom room (tokenBytes (tokensFrom t k v 0)) (length (tokensFrom t k v 0))))
+    go p l missing e = (omega arith, omega arith, omega arith)
+    go p l (found v) e =
+        small-or (ltb 255 (length (flat v))) (refuses 13 0) _ (omega arith, omega arith, omega arith)
+        (λ f. let h : length (flat v) ≤ 255 = ltb-false 255 (length (flat v)) f in
+        let n : length (tokensFrom t k v 0) ≤ 65025 =
+        omega (arith, tokens-count t k v 0, few-records t k v p l (reading-sound t k bs v e .0) h) in
+        small-room room (tokenBytes (tokensFrom t k v 0)) (length (tokensFrom t k v 0)) (omega (arith, bytes-count (tokensFrom t k v 0))) (omega arith))
+
+-- Read's
+pub small-read : (t : List ℕ) (k : ℕ) (s : List ℕ) (work room : ℕ) → Small (readSays t k s work room)
+unfolding readSays
+small-read t k s work room =
+    small-start t k _
+    (λ p l. small-or (ltb 255 (length s)) (refuses 7 0) _ (omega arith, omega arith, omega arith)
+    (λ f. small-or (ltb work (workSize (count t) (length s))) (refuses 10 0) _ (omega arith, omega arith, omega arith)
+    (λ _. go p l (ltb-false 255 (length s) f) (parse (expOf t k) s) refl)))
+  where
+    go : Passes t → k < count t → length s ≤ 255 → (x : Parsed) → parse (expOf t k) s ≡ x → Small (readParsed x room)
+    go p l h missing e = (omega arith, omega arith, omega arith)
+    go p l h (found v) e =
+        let q : Posix s (expOf t k) v = parse-sound (expOf t k) s v e in
+        let n : length (flat v) ≤ 255 = rw (posix-flat q) h in
+        let r : records v ≤ 65025 = few-records t k v p l (posix-reads q) n in
+        small-room room (encode v) (records v) (omega (arith, encode-length (posix-reads q))) (omega arith)
+
+-- an answer that is one of these
+pub said-small : {x : Said} (y : Said) → x ≡ y → Small y → Small x
+said-small y e h = subst (λ (said : Said). Small said) (sym e) h

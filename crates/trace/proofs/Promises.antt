@@ -1,0 +1,110 @@
+-- The page of promises: the three demands over the definitions that the calls' contracts cite, each proved by one citation. The contracts of
+-- table::check, matcher::read, reading::spell, tokens::tokens, ranking::compare and ranking::earlier say that the calls answer and leave what
+-- these definitions say, for every input: none of them has a `requires`, and each is proved to end.
+-- Assumes nothing.
+use Prim.Native.Nat.{ℕ, _*_, _≤_, _<_}
+use mathlib.Core.Path.{_≡_}
+use mathlib.Core.List.{List, _++_, map}
+use mathlib.Core.Logic.{_↔_}
+use lib.ListN.{length, drop}
+use Rattle.regex.specs.Values.{Val, flat}
+use Rattle.table.specs.Records.{count}
+use Rattle.table.specs.Faults.{Passes}
+use Rattle.table.specs.Answers.{Said, gives, refuses}
+use Rattle.table.specs.Checked.{checked}
+use Rattle.table.proofs.Checking.{check-passes, check-gives}
+use Rattle.reading.specs.Fitting.{Fits, spelled}
+use Rattle.reading.specs.Calls.{spellSays, spellLeaves}
+use Rattle.reading.proofs.Spelling.{spell-writes}
+use Rattle.tokens.specs.Tokens.{tokensFrom, tokenBytes, taggedParts, textAt, textOf}
+use Rattle.tokens.specs.Listed.{tokensSays, tokensLeaves}
+use Rattle.tokens.proofs.Text.{tokens-text}
+use Rattle.tokens.proofs.Calls.{tokens-writes}
+use Rattle.ranking.specs.Answers.{compareSays}
+use Rattle.matcher.specs.Calls.{readSays, readLeaves}
+use Rattle.trace.specs.Numbers.{Small}
+use Rattle.trace.specs.Demands.{Rival, Setting, ReadsBest, Precedence}
+use Rattle.trace.proofs.Answers.{Written, read-writes, read-refused, spell-refused, tokens-refused}
+use Rattle.trace.proofs.Bounds.{small-checked, small-read, small-spell, small-compare, small-tokens}
+use Rattle.trace.proofs.Rivals.{compared, none-fits, best-read}
+
+-- Demand 1: each call gives a result or one of document 01's refusals, for every table, start number, line, reading and length
+pub check-answers : (t : List ℕ) → Small (checked t)
+check-answers = small-checked
+
+pub read-answers : (t : List ℕ) (k : ℕ) (s : List ℕ) (work room : ℕ) → Small (readSays t k s work room)
+read-answers = small-read
+
+pub spell-answers : (t : List ℕ) (k : ℕ) (bs : List ℕ) (room : ℕ) → Small (spellSays t k bs room)
+spell-answers = small-spell
+
+pub tokens-answers : (t : List ℕ) (k : ℕ) (bs : List ℕ) (room : ℕ) → Small (tokensSays t k bs room)
+tokens-answers = small-tokens
+
+pub compare-answers : (t : List ℕ) (k : ℕ) (bs cs : List ℕ) → Small (compareSays t k bs cs)
+compare-answers = small-compare
+
+-- Demand 1: a refusal changes no output buffer
+pub read-keeps : (t : List ℕ) (k : ℕ) (s : List ℕ) (work : ℕ) (out : List ℕ) (n d : ℕ) → readSays t k s work (length out) ≡ refuses n d → readLeaves t k s work out ≡ out
+read-keeps = read-refused
+
+pub spell-keeps : (t : List ℕ) (k : ℕ) (bs out : List ℕ) (n d : ℕ) → spellSays t k bs (length out) ≡ refuses n d → spellLeaves t k bs out ≡ out
+spell-keeps = spell-refused
+
+pub tokens-keeps : (t : List ℕ) (k : ℕ) (bs out : List ℕ) (n d : ℕ) → tokensSays t k bs (length out) ≡ refuses n d → tokensLeaves t k bs out ≡ out
+tokens-keeps = tokens-refused
+
+-- Demand 2: Read writes the reading that the relation gives the line, and nothing else
+pub read-right : (t : List ℕ) (k : ℕ) (s : List ℕ) (work : ℕ) (out : List ℕ) (n : ℕ) → readSays t k s work (length out) ≡ gives n → Written t k s work out n
+read-right = read-writes
+
+-- Demand 2: for a fitting reading of at most 255 line bytes and a buffer that holds the answer, Spell returns just the line it flattens to
+pub spell-right :
+    (t : List ℕ) (k : ℕ) (bs out : List ℕ) → Passes t → k < count t → (f : Fits t k bs) → length (flat (f .value)) ≤ 255
+    → length (flat (f .value)) ≤ length out
+    → (spellSays t k bs (length out) ≡ gives (length (flat (f .value))))
+    × (spellLeaves t k bs out ≡ flat (f .value) ++ drop (length (flat (f .value))) out)
+spell-right = spell-writes
+
+-- Demand 2: and Tokens just its outermost tagged parts
+pub tokens-right :
+    (t : List ℕ) (k : ℕ) (bs out : List ℕ) → Passes t → k < count t → (f : Fits t k bs) → length (flat (f .value)) ≤ 255
+    → 3 * length (tokensFrom t k (f .value) 0) ≤ length out
+    → (tokensSays t k bs (length out) ≡ gives (length (tokensFrom t k (f .value) 0)))
+    × (tokensLeaves t k bs out
+    ≡ tokenBytes (tokensFrom t k (f .value) 0) ++ drop (length (tokenBytes (tokensFrom t k (f .value) 0))) out)
+tokens-right = tokens-writes
+
+-- Demand 2: the tokens' places in the line hold just what its outermost tagged parts spell, in order and with their tags
+pub tokens-placed : (t : List ℕ) (k : ℕ) (v : Val) → map (textAt (flat v)) (tokensFrom t k v 0) ≡ map textOf (taggedParts t k v)
+tokens-placed = tokens-text
+
+-- Demand 3: Check passes exactly the tables free of refusals 1 to 6
+pub check-passed : (t : List ℕ) → Passes t → checked t ≡ gives (count t)
+check-passed = check-passes
+
+pub check-free : (t : List ℕ) (m : ℕ) → checked t ≡ gives m → Passes t × (m ≡ count t)
+check-free = check-gives
+
+-- Demand 3: Read gives 8 exactly when no byte sequence fits the start record and spells the line
+pub read-none :
+    (t : List ℕ) (k : ℕ) (s : List ℕ) (work : ℕ) → Setting t k s work
+    → (room : ℕ)
+    → (readSays t k s work room ≡ refuses 8 0) ↔ ((bs : List ℕ) → ¬ (Rival t k s bs))
+read-none = none-fits
+
+-- Demand 3: otherwise one byte sequence does both and Compare ranks it ahead of every other that does; Read gives 11 exactly when the buffer is
+-- shorter than that one, else writes that one and returns its record count
+pub read-best :
+    (t : List ℕ) (k : ℕ) (s : List ℕ) (work : ℕ) → Setting t k s work
+    → (out : List ℕ)
+    → ¬ (readSays t k s work (length out) ≡ refuses 8 0)
+    → ReadsBest t k s work out
+read-best = best-read
+
+-- Demand 3: for any two byte sequences that fit and spell one such line, Compare's answer is document 01's precedence
+pub compare-right :
+    (t : List ℕ) (k : ℕ) (bs cs : List ℕ) → Passes t → k < count t → (f : Fits t k bs) (g : Fits t k cs) → spelled bs ≡ spelled cs
+    → length (spelled bs) ≤ 255
+    → Precedence t k bs cs f g
+compare-right = compared

@@ -1,0 +1,173 @@
+-- No rival outranks the reading that Read writes, and none exists where it says that there is none (demand 3).
+-- Assumes nothing.
+use Prim.Native.Nat.{ℕ, _*_, _≤_, _<_}
+use mathlib.Core.Path.{_≡_, refl, sym, _∙_, ap}
+use mathlib.Core.Bool.{Bool, true, false}
+use mathlib.Core.List.{List, _++_}
+use mathlib.Core.Logic.{_↔_, _⊎_, inl, inr, ⊎-elim}
+use native.Mathlib.Omega.{arith}
+use borrow.Author.Tests.{lt-ltb, le-ltb, ltb-true, ltb-false}
+use lib.Dec.{ltb}
+use lib.ListN.{length, drop}
+use Rattle.regex.specs.Values.{Val, flat, records, Reads}
+use Rattle.regex.specs.Language.{L}
+use Rattle.regex.specs.Relation.{Posix}
+use Rattle.regex.specs.Precedence.{Ahead}
+use Rattle.regex.specs.Decision.{Parsed, found, missing, parse}
+use Rattle.regex.proofs.Flats.{posix-flat, posix-reads, reads-spelled}
+use Rattle.regex.proofs.Paths.{ahead-irreflexive}
+use Rattle.regex.proofs.Ahead.{posix-ahead, posix-best}
+use Rattle.regex.proofs.Parse.{parse-sound, parse-missing}
+use Rattle.table.specs.Records.{count}
+use Rattle.table.specs.Faults.{Passes}
+use Rattle.table.specs.Expression.{expOf}
+use Rattle.table.specs.Answers.{Said, gives, refuses}
+use Rattle.table.specs.Checked.{orElse, checked}
+use Rattle.table.proofs.Checking.{check-passes}
+use Rattle.reading.specs.Codec.{encode}
+use Rattle.reading.specs.Fitting.{Fits, spelled}
+use Rattle.reading.specs.Calls.{ifStart, ifRoom, after, bytesOf}
+use Rattle.reading.proofs.Lengths.{encode-length, spelled-fits}
+use Rattle.ranking.specs.Answers.{compareSays}
+use Rattle.ranking.proofs.Precedence.{compare-first, compare-second, compare-same}
+use Rattle.matcher.specs.Calls.{workSize, readParsed, readSays, readLeaves}
+use Rattle.trace.specs.Demands.{Bytes, Rival, Best, Setting, ReadsBest, Precedence}
+use Rattle.trace.proofs.ByteLists.{encode-bytes}
+
+-- Compare's answer on two fitting byte sequences that spell one line of at most 255 bytes
+pub compared :
+    (t : List ℕ) (k : ℕ) (bs cs : List ℕ) → Passes t → k < count t → (f : Fits t k bs) (g : Fits t k cs) → spelled bs ≡ spelled cs
+    → length (spelled bs) ≤ 255
+    → Precedence t k bs cs f g
+compared t k bs cs p l f g one short =
+    record {
+      first-ahead = compare-first t k p l f g one short;
+      second-ahead = compare-second t k p l f g one short;
+      same-bytes = compare-same t k p l f g one short;
+    }
+
+module _ (t : List ℕ) (k : ℕ) (s : List ℕ) (work : ℕ) (h : Setting t k s work) where
+  -- in the setting only 8, 11 and a reading are left
+  settled : (room : ℕ) → readSays t k s work room ≡ readParsed (parse (expOf t k) s) room
+  unfolding readSays
+  settled room =
+      rw (check-passes t (h .passes), lt-ltb k (count t) (h .inside), le-ltb 255 (length s) (h .short), le-ltb work (workSize (count t) (length s)) (h .enough))
+
+  module _ (v : Val) (p : Posix s (expOf t k) v) where
+    -- the encoding of the POSIX reading fits and spells the line
+    own : Rival t k s (encode v)
+    own =
+        let e : flat v ≡ s = posix-flat p in
+        let f : Fits t k (encode v) = record { value = v; reads = posix-reads p; encoded = refl } in
+        record {
+          bytes = encode-bytes (posix-reads p) (rw e (h .line)) (rw e (h .short));
+          fits = f;
+          spells = spelled-fits f ∙ e;
+        }
+
+    lines : (bs : List ℕ) (r : Rival t k s bs) → flat (r .fits .value) ≡ s
+    lines bs r = sym (spelled-fits (r .fits)) ∙ r .spells
+
+    -- and ranks ahead of every other
+    own-best : Best t k s (encode v)
+    unfolding own
+    own-best = record { rival = own; ahead = ahead }
+      where
+        ahead : (cs : List ℕ) → Rival t k s cs → ¬ (cs ≡ encode v) → (compareSays t k (encode v) cs ≡ gives 1) × (compareSays t k cs (encode v) ≡ gives 2)
+        ahead cs r n =
+            let a : Ahead v (r .fits .value) =
+            posix-best p (r .fits .reads) (lines cs r) (λ e. n (r .fits .encoded ∙ ap encode e)) in
+            let one : spelled (encode v) ≡ spelled cs = own .spells ∙ sym (r .spells) in
+            let short : length (spelled (encode v)) ≤ 255 = rw (own .spells) (h .short) in
+            let short′ : length (spelled cs) ≤ 255 = rw (r .spells) (h .short) in (
+              compare-first t k (h .passes) (h .inside) (own .fits) (r .fits) one short .1 a,
+              compare-second t k (h .passes) (h .inside) (r .fits) (own .fits) (sym one) short′ .1 a,
+            )
+
+    -- no other does
+    own-only : (bs : List ℕ) → Best t k s bs → bs ≡ encode v
+    unfolding own
+    own-only bs b =
+        ⊎-elim (λ (e : b .rival .fits .value ≡ v). b .rival .fits .encoded ∙ ap encode e) behind
+        (posix-ahead p (b .rival .fits .reads) (lines bs (b .rival)))
+      where
+        behind : Ahead v (b .rival .fits .value) → bs ≡ encode v
+        behind a =
+            let n : ¬ (bs ≡ encode v) =
+            λ e. let z : compareSays t k bs (encode v) ≡ gives 0 =
+            compare-same t k (h .passes) (h .inside) (b .rival .fits) (own .fits) (b .rival .spells ∙ sym (own .spells)) (rw (b .rival .spells) (h .short)) .1 e in
+            let y : compareSays t k bs (encode v) ≡ gives 2 =
+            compare-second t k (h .passes) (h .inside) (b .rival .fits) (own .fits) (b .rival .spells ∙ sym (own .spells)) (rw (b .rival .spells) (h .short)) .1 a in
+            let x : gives 0 ≡ gives 2 = sym z ∙ y in let w : _≡_ {A = ℕ} 0 2 = cc in omega arith in
+            let x : compareSays t k (encode v) bs ≡ gives 1 = own-best .ahead bs (b .rival) n .0 in
+            let y : compareSays t k (encode v) bs ≡ gives 2 = b .ahead (encode v) own (λ e. n (sym e)) .1 in
+            let z : gives 1 ≡ gives 2 = sym x ∙ y in let w : _≡_ {A = ℕ} 1 2 = cc in absurd (omega arith)
+
+    -- Read with a buffer, where parse finds the reading
+    own-read : (out : List ℕ) → parse (expOf t k) s ≡ found v → ReadsBest t k s work out
+    unfolding readLeaves
+    own-read out e =
+        record {
+          reading = encode v;
+          best = own-best;
+          only = own-only;
+          too-short = λ d. (short d, λ x. told ∙ rw (lt-ltb (length out) (length (encode v)) (x .0)) (ap (refuses 11) (sym (x .1))));
+          records = records v;
+          two-bytes-each = encode-length (posix-reads p);
+          written = λ l. (fits l, rw (fits l, e));
+        }
+      where
+        told : readSays t k s work (length out) ≡ ifRoom (length out) (encode v) (records v)
+        told = settled (length out) ∙ ap (λ (x : Parsed). readParsed x (length out)) e
+
+        fits : length (encode v) ≤ length out → readSays t k s work (length out) ≡ gives (records v)
+        fits l = told ∙ rw (le-ltb (length out) (length (encode v)) l)
+
+        short : (d : ℕ) → readSays t k s work (length out) ≡ refuses 11 d → (length out < length (encode v)) × (d ≡ length (encode v))
+        short d f = go (ltb (length out) (length (encode v))) refl
+          where
+            go : (b : Bool) → ltb (length out) (length (encode v)) ≡ b → (length out < length (encode v)) × (d ≡ length (encode v))
+            go true g =
+                let z : refuses 11 (length (encode v)) ≡ refuses 11 d = sym (told ∙ rw g) ∙ f in
+                (ltb-true (length out) (length (encode v)) g, cc)
+            go false g =
+                let z : gives (records v) ≡ refuses 11 d = sym (told ∙ rw g) ∙ f in
+                let y : _≡_ {A = ℕ} 0 1 = cc in
+                absurd (omega arith)
+
+  -- Read gives 8 exactly when no byte sequence fits and spells the line
+  pub none-fits : (room : ℕ) → (readSays t k s work room ≡ refuses 8 0) ↔ ((bs : List ℕ) → ¬ (Rival t k s bs))
+  unfolding own
+  none-fits room = (forth (parse (expOf t k) s) refl, back (parse (expOf t k) s) refl)
+    where
+      forth : (x : Parsed) → parse (expOf t k) s ≡ x → readSays t k s work room ≡ refuses 8 0 → (bs : List ℕ) → ¬ (Rival t k s bs)
+      forth missing e f bs r =
+          let m : L (expOf t k) (flat (r .fits .value)) = reads-spelled (r .fits .reads) in
+          let l : flat (r .fits .value) ≡ s = sym (spelled-fits (r .fits)) ∙ r .spells in
+          parse-missing (expOf t k) s e (rw l at m)
+      forth (found v) e f bs r = go (ltb room (length (encode v))) refl
+        where
+          told : readSays t k s work room ≡ ifRoom room (encode v) (records v)
+          told = settled room ∙ ap (λ (x : Parsed). readParsed x room) e
+
+          go : (b : Bool) → ltb room (length (encode v)) ≡ b → ⊥
+          go true g =
+              let z : refuses 11 (length (encode v)) ≡ refuses 8 0 = sym (told ∙ rw g) ∙ f in
+              let y : _≡_ {A = ℕ} 11 8 = cc in
+              omega arith
+          go false g =
+              let z : gives (records v) ≡ refuses 8 0 = sym (told ∙ rw g) ∙ f in
+              let y : _≡_ {A = ℕ} 0 1 = cc in
+              omega arith
+
+      back : (x : Parsed) → parse (expOf t k) s ≡ x → ((bs : List ℕ) → ¬ (Rival t k s bs)) → readSays t k s work room ≡ refuses 8 0
+      back missing e f = settled room ∙ ap (λ (x : Parsed). readParsed x room) e
+      back (found v) e f = absurd (f (encode v) (own v (parse-sound (expOf t k) s v e)))
+
+  -- otherwise one byte sequence is best, and Read says 11 or writes it
+  pub best-read : (out : List ℕ) → ¬ (readSays t k s work (length out) ≡ refuses 8 0) → ReadsBest t k s work out
+  best-read out n = go (parse (expOf t k) s) refl
+    where
+      go : (x : Parsed) → parse (expOf t k) s ≡ x → ReadsBest t k s work out
+      go missing e = absurd (n (settled (length out) ∙ ap (λ (x : Parsed). readParsed x (length out)) e))
+      go (found v) e = own-read v (parse-sound (expOf t k) s v e) out e

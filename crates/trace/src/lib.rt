@@ -1,0 +1,83 @@
+// The calls for C: numbers and byte slices in, one 64-bit number out.
+
+ghost use mathlib.Core.Path.{_≡_};
+ghost use Rattle.table.specs.Answers.{says, number};
+ghost use Rattle.table.specs.Checked.{checked};
+ghost use mathlib.Core.Bool.{true};
+ghost use lib.ListN.{length};
+ghost use Rattle.reading.specs.Calls.{spellSays, spellLeaves};
+ghost use Rattle.ranking.specs.Answers.{compareSays};
+ghost use Rattle.tokens.specs.Listed.{tokensSays, tokensLeaves};
+ghost use Rattle.matcher.specs.Calls.{readSays, readLeaves, keepsWork};
+ghost use Rattle.trace.specs.Numbers.{Small};
+use table::Answer;
+
+// The result, or the refusal number times 2^32 plus the detail.
+fn number_of(answer: Answer) -> u64
+    requires { ⌜ Small (says answer) ⌝ }
+    ensures { λ r. ⌜ r ≡ number (says answer) ⌝ }
+{
+    match answer {
+        Answer::Done(n) => n as u64,
+        Answer::Refused(why) => {
+            let numbers = table::numbers_of(why);
+            (numbers.number as u64) * 4294967296 + numbers.detail as u64
+        }
+    }
+}
+
+// Check.
+#[no_mangle]
+pub extern "C" fn trace_check(table: &[u8]) -> u64
+    ensures { λ r. ⌜ r ≡ number (checked (now (table .entry))) ⌝ }
+{
+    number_of(table::check(table))
+}
+
+// Read.
+#[no_mangle]
+pub extern "C" fn trace_read(
+    table: &[u8],
+    start: u64,
+    line: &[u8],
+    work: &mut [u8],
+    out: &mut [u8],
+) -> u64
+    ensures answer { λ r. ⌜ r
+        ≡ number
+        (readSays (now (table .entry)) start (now (line .entry)) (length (now (work .entry))) (length (now (out .entry)))) ⌝ }
+    ensures buffer { λ r. ⌜ now (out .exit)
+        ≡ readLeaves (now (table .entry)) start (now (line .entry)) (length (now (work .entry))) (now (out .entry)) ⌝ }
+    ensures work { λ r. ⌜ (keepsWork
+        (readSays (now (table .entry)) start (now (line .entry)) (length (now (work .entry))) (length (now (out .entry))))
+        ≡ true
+        → now (work .exit) ≡ now (work .entry)) ⌝ }
+{
+    number_of(matcher::read(table, start as usize, line, work, out))
+}
+
+// Spell.
+#[no_mangle]
+pub extern "C" fn trace_spell(table: &[u8], start: u64, reading: &[u8], out: &mut [u8]) -> u64
+    ensures answer { λ r. ⌜ r ≡ number (spellSays (now (table .entry)) start (now (reading .entry)) (length (now (out .entry)))) ⌝ }
+    ensures buffer { λ r. ⌜ now (out .exit) ≡ spellLeaves (now (table .entry)) start (now (reading .entry)) (now (out .entry)) ⌝ }
+{
+    number_of(reading::spell(table, start as usize, reading, out))
+}
+
+// Compare.
+#[no_mangle]
+pub extern "C" fn trace_compare(table: &[u8], start: u64, first: &[u8], second: &[u8]) -> u64
+    ensures answer { λ r. ⌜ r ≡ number (compareSays (now (table .entry)) start (now (first .entry)) (now (second .entry))) ⌝ }
+{
+    number_of(ranking::compare(table, start as usize, first, second))
+}
+
+// Tokens.
+#[no_mangle]
+pub extern "C" fn trace_tokens(table: &[u8], start: u64, reading: &[u8], out: &mut [u8]) -> u64
+    ensures answer { λ r. ⌜ r ≡ number (tokensSays (now (table .entry)) start (now (reading .entry)) (length (now (out .entry)))) ⌝ }
+    ensures buffer { λ r. ⌜ now (out .exit) ≡ tokensLeaves (now (table .entry)) start (now (reading .entry)) (now (out .entry)) ⌝ }
+{
+    number_of(tokens::tokens(table, start as usize, reading, out))
+}

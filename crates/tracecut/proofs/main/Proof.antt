@@ -1,0 +1,78 @@
+-- `tracecut::main` meets its contract: each part that is lent lies within its buffer. Assumes nothing.
+use Prim.Native.Nat.{ℕ}
+use native.Mathlib.Omega.{arith}
+use mathlib.Core.Path.{sym}
+use borrow.Author.Needs.{needs}
+use lib.ListN.{length-replicate}
+use lib.Seq.{length-take-le}
+use Rattle.tracecut.proofs.main.Statement.{statement}
+use Rattle.tracecut.proofs.main.Tie as tie
+
+slice-aggregate-read-table : tie.Need-slice-aggregate-read-table
+slice-aggregate-read-table c = search needs
+
+read-table-requires : tie.Need-read-table-requires
+read-table-requires c κs = search needs
+
+array-share-prefix-table : tie.Need-array-share-prefix-table
+array-share-prefix-table c = search needs
+
+slice-aggregate-report-table : tie.Need-slice-aggregate-report-table
+slice-aggregate-report-table c = sym (length-take-le (c .before .before .read-table .result) (c .before .before .read-table .last .0) (c .before .before .read-table .ensures))
+
+slice-aggregate-report-table-2 : tie.Need-slice-aggregate-report-table-2
+slice-aggregate-report-table-2 c = search needs
+
+report-table-requires : tie.Need-report-table-requires
+report-table-requires c κs = search needs
+
+array-share-prefix-out : tie.Need-array-share-prefix-out
+array-share-prefix-out c = search needs
+
+slice-aggregate-write-all : tie.Need-slice-aggregate-write-all
+slice-aggregate-write-all c = sym (length-take-le (c .before .before .before .report-table .result) (c .before .before .before .report-table .last .1 .0) (omega (arith, c .before .before .before .report-table .ensures .0, c .before .before .before .report-table .kept .1 .0, length-replicate {A = ℕ} 65536 0)))
+
+write-all-requires : tie.Need-write-all-requires
+write-all-requires c κs = search needs
+
+returns : tie.Need-returns
+returns c = search needs
+
+array-share-prefix-table-2 : tie.Need-array-share-prefix-table-2
+array-share-prefix-table-2 c = search needs
+
+slice-aggregate-run : tie.Need-slice-aggregate-run
+slice-aggregate-run c = sym (length-take-le (c .before .before .before .before .before .before .before .read-table .result) (c .before .before .before .before .before .before .before .read-table .last .0) (c .before .before .before .before .before .before .before .read-table .ensures))
+
+last-record-requires : tie.Need-last-record-requires
+last-record-requires c κs = search needs
+
+slice-aggregate-run-2 : tie.Need-slice-aggregate-run-2
+slice-aggregate-run-2 c = search needs
+
+run-requires : tie.Need-run-requires
+run-requires c κs = search needs
+
+returns-2 : tie.Need-returns-2
+returns-2 c = search needs
+
+pub main-spec : {M : Type 1} → statement M
+main-spec =
+    tie.close
+    (tie.spec
+    slice-aggregate-read-table
+    read-table-requires
+    array-share-prefix-table
+    slice-aggregate-report-table
+    slice-aggregate-report-table-2
+    report-table-requires
+    array-share-prefix-out
+    slice-aggregate-write-all
+    write-all-requires
+    returns
+    array-share-prefix-table-2
+    slice-aggregate-run
+    last-record-requires
+    slice-aggregate-run-2
+    run-requires
+    returns-2)

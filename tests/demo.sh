@@ -1,0 +1,14 @@
+#!/usr/bin/env bash
+# Cuts the sample trace of demo/ with its table and shows what the program prints. Run from the repository's root.
+set -euo pipefail
+echo "proving and building the program (the first time takes some minutes) .."
+rt check tracecut >/dev/null
+program=$(pwd)/target/bin/tracecut
+dir=$(mktemp -d)
+trap 'rm -rf "$dir"' EXIT
+bash demo/build-table.sh demo/rules.txt >"$dir/rules.tab"
+echo "the trace:"
+cat demo/trace.txt
+echo
+echo "its tokens, a tag, an offset and a length each (1 time, 2 sensor, 3 temperature):"
+(cd "$dir" && "$program") <demo/trace.txt

@@ -1,0 +1,276 @@
+/* A stand-in for libtrace.a that tests the referee itself. The environment
+   variable TRACE_FAULT plants one fault; 0 or none plants none. The faults are
+   listed in selftest.sh. */
+#include <stddef.h>
+#include <stdint.h>
+#include <stdlib.h>
+#include <string.h>
+
+static int FAULT;
+
+__attribute__((constructor)) static void plant(void) {
+    const char *number = getenv("TRACE_FAULT");
+    FAULT = number ? atoi(number) : 0;
+}
+
+static uint64_t refuse(uint64_t number, uint64_t detail) { return (number << 32) + detail; }
+
+typedef struct { const uint8_t *t; size_t m; } tab;
+static uint8_t kind(tab t, size_t k) { return t.t[4 * k]; }
+static size_t fa(tab t, size_t k) { return t.t[4 * k + 1]; }
+static size_t fb(tab t, size_t k) { return t.t[4 * k + 2]; }
+static uint8_t tag(tab t, size_t k) { return t.t[4 * k + 3]; }
+
+uint64_t trace_check(const uint8_t *table, size_t len) {
+    uint8_t named[256] = {0};
+    if (len == 0 || len > 1020 || len % 4) return refuse(1, 0);
+    size_t m = len / 4;
+    tab t = {table, m};
+    if (FAULT == 9) return m;
+    if (FAULT == 10) return refuse(6, 0);
+    for (size_t k = 0; k < m; k++) {
+        uint8_t d = kind(t, k);
+        size_t a = fa(t, k), b = fb(t, k);
+        if (d > 5) return refuse(2, k);
+        if ((d < 2 && (a || b)) || (d == 5 && b)) return refuse(3, k);
+        if (d == 2 && a > b) return refuse(4, k);
+        int two = d == 3 || d == 4, any = d >= 3;
+        if ((any && a >= k) || (two && b >= k)) return refuse(5, k);
+        if (two && a == b) return refuse(6, k);
+        if ((any && named[a]) || (two && named[b])) return refuse(6, k);
+        if (any) named[a] = 1;
+        if (two) named[b] = 1;
+    }
+    return m;
+}
+
+static uint64_t open_table(const uint8_t *table, size_t len, uint64_t start) {
+    uint64_t c = trace_check(table, len);
+    if (c >> 32) return c;
+    if (FAULT == 17) start = (uint32_t)start;
+    return start < c ? c : refuse(9, 0);
+}
+
+/* The table of parts: is line[i..j] in L(k)? */
+typedef struct { tab t; const uint8_t *s; size_t n; uint8_t *w; uint8_t *out; size_t at; } rd;
+
+static uint8_t *part(rd *r, size_t k, size_t i, size_t j) {
+    size_t tri = (r->n + 1) * (r->n + 2) / 2;
+    return &r->w[k * tri + (j * (j + 1)) / 2 + i];
+}
+
+static void fill(rd *r) {
+    for (size_t k = 0; k < r->t.m; k++)
+        for (size_t d = 0; d <= r->n; d++)
+            for (size_t i = 0; i + d <= r->n; i++) {
+                size_t j = i + d, a = fa(r->t, k), b = fb(r->t, k);
+                int y = 0;
+                switch (kind(r->t, k)) {
+                case 1: y = d == 0; break;
+                case 2: y = d == 1 && a <= r->s[i] && r->s[i] <= b; break;
+                case 3: y = *part(r, a, i, j) || *part(r, b, i, j); break;
+                case 4: for (size_t p = i; p <= j && !y; p++) y = *part(r, a, i, p) && *part(r, b, p, j); break;
+                case 5: y = d == 0; for (size_t p = i + 1; p <= j && !y; p++) y = *part(r, a, i, p) && *part(r, k, p, j); break;
+                }
+                *part(r, k, i, j) = (uint8_t)y;
+            }
+}
+
+static void put2(rd *r, uint8_t x, uint8_t y) {
+    if (r->out) { r->out[r->at] = x; r->out[r->at + 1] = y; }
+    r->at += 2;
+}
+
+static size_t cut(rd *r, size_t a, size_t k, size_t i, size_t j, size_t lo, int shortest) {
+    if (shortest) { for (size_t p = lo; p <= j; p++) if (*part(r, a, i, p) && *part(r, k, p, j)) return p; }
+    for (size_t p = j + 1; p-- > lo;) if (*part(r, a, i, p) && *part(r, k, p, j)) return p;
+    return lo;
+}
+
+static void put(rd *r, size_t k, size_t i, size_t j) {
+    size_t a = fa(r->t, k), b = fb(r->t, k);
+    switch (kind(r->t, k)) {
+    case 1: put2(r, 0, 0); break;
+    case 2: put2(r, 1, r->s[i]); break;
+    case 3:
+        if (FAULT == 11 ? !*part(r, b, i, j) : *part(r, a, i, j)) { put2(r, 2, 0); put(r, a, i, j); }
+        else { put2(r, 3, 0); put(r, b, i, j); }
+        break;
+    case 4: {
+        size_t p = cut(r, a, b, i, j, i, FAULT == 1);
+        put2(r, 4, 0); put(r, a, i, p); put(r, b, p, j);
+        break;
+    }
+    case 5: {
+        size_t at = r->at, count = 0;
+        put2(r, 5, 0);
+        while (i < j) {
+            size_t p = cut(r, a, k, i, j, i + 1, FAULT == 1 || (FAULT == 2 && count));
+            put(r, a, i, p);
+            i = p;
+            count++;
+        }
+        if (r->out) r->out[at + 1] = (uint8_t)count;
+    }
+    }
+}
+
+uint64_t trace_read(const uint8_t *table, size_t table_len, uint64_t start, const uint8_t *line,
+                    size_t line_len, uint8_t *work, size_t work_len, uint8_t *out, size_t out_len) {
+    uint64_t c = open_table(table, table_len, start);
+    if (c >> 32) return c;
+    if (line_len > 255) return refuse(7, 0);
+    if (FAULT == 15 && work_len) work[0] = 0;
+    if (work_len < c * (line_len + 1) * (line_len + 2) / 2) return refuse(10, 0);
+    rd r = {{table, c}, line, line_len, work, NULL, 0};
+    fill(&r);
+    if (!*part(&r, (uint32_t)start, 0, line_len) || (FAULT == 3 && line_len > 20)) return refuse(8, 0);
+    put(&r, (uint32_t)start, 0, line_len);
+    if (out_len < r.at || (FAULT == 4 && out_len == r.at)) return refuse(11, FAULT == 18 ? r.at / 2 : r.at);
+    r.out = out;
+    r.at = 0;
+    put(&r, (uint32_t)start, 0, line_len);
+    if (FAULT == 14) out[r.at] = 0;
+    return r.at / 2 + (FAULT == 5);
+}
+
+/* Fitting: the place after the element, or SIZE_MAX. */
+static size_t element(tab t, size_t k, const uint8_t *v, size_t len, size_t at, uint64_t *n) {
+    if (FAULT == 20) {
+        volatile uint8_t *big = __builtin_alloca(8192);
+        big[0] = big[8191] = 0;
+    }
+    size_t a = fa(t, k), b = fb(t, k);
+    if (FAULT == 16 && v[at] == 9) return SIZE_MAX;
+    if (len - at < 2) return SIZE_MAX;
+    uint8_t d = v[at], x = v[at + 1];
+    at += 2;
+    switch (kind(t, k)) {
+    case 1: return d == 0 && x == 0 ? at : SIZE_MAX;
+    case 2: if (d != 1 || x < a || x > b) return SIZE_MAX; ++*n; return at;
+    case 3:
+        if (x || (d != 2 && d != 3)) return SIZE_MAX;
+        return element(t, d == 2 ? a : b, v, len, at, n);
+    case 4:
+        if (x || d != 4) return SIZE_MAX;
+        at = element(t, a, v, len, at, n);
+        return at == SIZE_MAX ? at : element(t, b, v, len, at, n);
+    case 5:
+        if (d != 5) return SIZE_MAX;
+        while (x--) {
+            uint64_t had = *n;
+            at = element(t, a, v, len, at, n);
+            if (at == SIZE_MAX || (*n == had && FAULT != 12)) return SIZE_MAX;
+        }
+        return at;
+    default: return SIZE_MAX;
+    }
+}
+
+static uint64_t fits(tab t, size_t k, const uint8_t *v, size_t len, uint64_t which, uint64_t *n) {
+    *n = 0;
+    return element(t, k, v, len, 0, n) == len ? 0 : refuse(12, which);
+}
+
+uint64_t trace_spell(const uint8_t *table, size_t table_len, uint64_t start, const uint8_t *reading,
+                     size_t reading_len, uint8_t *out, size_t out_len) {
+    uint64_t n, e, c = open_table(table, table_len, start);
+    if (c >> 32) return c;
+    tab t = {table, c};
+    if ((e = fits(t, (uint32_t)start, reading, reading_len, 0, &n)) || FAULT == 8) return refuse(12, 0);
+    if (n > 255) return refuse(13, 0);
+    if (out_len < n) return refuse(11, n);
+    for (size_t i = 0, at = 0; i < reading_len; i += 2) if (reading[i] == 1) out[at++] = reading[i + 1];
+    return n;
+}
+
+static size_t tokens(tab t, size_t k, const uint8_t *v, size_t len, size_t at, uint64_t *off, uint8_t *out, size_t *cnt) {
+    size_t a = fa(t, k), b = fb(t, k);
+    if (tag(t, k)) {
+        uint64_t n = 0;
+        size_t after = element(t, k, v, len, at, &n);
+        if (out) { out[*cnt] = tag(t, k); out[*cnt + 1] = (uint8_t)*off; out[*cnt + 2] = (uint8_t)n; }
+        *cnt += 3;
+        if (FAULT != 21) { *off += n; return after; }
+    }
+    uint8_t d = v[at], x = v[at + 1];
+    at += 2;
+    switch (kind(t, k)) {
+    case 2: ++*off; break;
+    case 3: return tokens(t, d == 2 ? a : b, v, len, at, off, out, cnt);
+    case 4: at = tokens(t, a, v, len, at, off, out, cnt); return tokens(t, b, v, len, at, off, out, cnt);
+    case 5: while (x--) at = tokens(t, a, v, len, at, off, out, cnt); break;
+    }
+    return at;
+}
+
+uint64_t trace_tokens(const uint8_t *table, size_t table_len, uint64_t start, const uint8_t *reading,
+                      size_t reading_len, uint8_t *out, size_t out_len) {
+    uint64_t n, e, off = 0, c = open_table(table, table_len, start);
+    size_t need = 0;
+    if (c >> 32) return c;
+    tab t = {table, c};
+    if ((e = fits(t, (uint32_t)start, reading, reading_len, 0, &n))) return e;
+    if (n > 255) return refuse(13, 0);
+    tokens(t, (uint32_t)start, reading, reading_len, 0, &off, NULL, &need);
+    if (FAULT == 7) return 0;
+    if (out_len < need) return refuse(11, need);
+    off = 0;
+    need = 0;
+    tokens(t, (uint32_t)start, reading, reading_len, 0, &off, out, &need);
+    return need / 3;
+}
+
+/* The first difference of two walks, parent first, decides. */
+static int rank(tab t, size_t k, const uint8_t *v, size_t vl, const uint8_t *w, size_t wl, size_t *x, size_t *y) {
+    uint64_t n = 0, o = 0;
+    element(t, k, v, vl, *x, &n);
+    element(t, k, w, wl, *y, &o);
+    if (n != o) return n > o ? 1 : 2;
+    size_t a = fa(t, k), b = fb(t, k);
+    uint8_t dv = v[*x], dw = w[*y], cv = v[*x + 1], cw = w[*y + 1];
+    *x += 2;
+    *y += 2;
+    int g;
+    switch (kind(t, k)) {
+    case 3:
+        if (dv != dw) return dv == 2 ? 1 : 2;
+        return rank(t, dv == 2 ? a : b, v, vl, w, wl, x, y);
+    case 4:
+        if ((g = rank(t, a, v, vl, w, wl, x, y))) return g;
+        return rank(t, b, v, vl, w, wl, x, y);
+    case 5:
+        if (FAULT == 13 && cv != cw) return cv > cw ? 1 : 2;
+        for (int i = 0; i < cv && i < cw; i++) if ((g = rank(t, a, v, vl, w, wl, x, y))) return g;
+        return cv == cw ? 0 : cv > cw ? 1 : 2;
+    }
+    return 0;
+}
+
+static int same_line(const uint8_t *v, size_t vl, const uint8_t *w, size_t wl) {
+    size_t i = 0, j = 0;
+    for (;;) {
+        while (i < vl && v[i] != 1) i += 2;
+        while (j < wl && w[j] != 1) j += 2;
+        if (i >= vl || j >= wl) return i >= vl && j >= wl;
+        if (v[i + 1] != w[j + 1]) return 0;
+        i += 2;
+        j += 2;
+    }
+}
+
+uint64_t trace_compare(const uint8_t *table, size_t table_len, uint64_t start, const uint8_t *first,
+                       size_t first_len, const uint8_t *second, size_t second_len) {
+    uint64_t n, o, e, c = open_table(table, table_len, start);
+    if (c >> 32) return c;
+    tab t = {table, c};
+    if ((e = fits(t, (uint32_t)start, first, first_len, 0, &n))) return e;
+    if (FAULT == 19 && n > 255) return refuse(13, 0);
+    if ((e = fits(t, (uint32_t)start, second, second_len, 1, &o))) return e;
+    if (n > 255) return refuse(13, 0);
+    if (o > 255) return refuse(13, 1);
+    if (!same_line(first, first_len, second, second_len)) return refuse(14, 0);
+    if (FAULT == 6) return 0;
+    size_t x = 0, y = 0;
+    return (uint64_t)rank(t, (uint32_t)start, first, first_len, second, second_len, &x, &y);
+}

@@ -1,0 +1,53 @@
+#!/bin/sh
+# Tests the referee itself: a stand-in library passes without a fault, and is
+# caught with each planted one. Run from this folder.
+set -eu
+
+dir=$(mktemp -d)
+trap 'rm -rf "$dir"' EXIT
+cc -O2 -Wall -Wextra -c mock/trace.c -o "$dir/trace.o"
+ar rcs "$dir/libtrace.a" "$dir/trace.o"
+export TRACE_LIB_DIR="$dir" CARGO_TARGET_DIR="$dir/target"
+cargo test --release --quiet --lib
+cargo build --release --quiet
+referee="$dir/target/release/referee"
+
+"$referee" gate
+"$referee" stack
+valgrind -q --error-exitcode=1 "$referee" memcheck
+
+# number, subcommand, fault
+while read -r number command fault; do
+    case $command in
+    valgrind) set -- valgrind -q --error-exitcode=1 "$referee" memcheck ;;
+    *) set -- "$referee" "$command" ;;
+    esac
+    if TRACE_FAULT=$number "$@" >"$dir/log" 2>&1; then
+        echo "MISSED: $fault"
+        exit 1
+    fi
+    echo "caught: $fault"
+    if [ -n "${SHOW:-}" ]; then cat "$dir/log"; fi
+done <<'LIST'
+1 gate Read takes the shortest first part
+2 gate Read fakes the iterations after the first
+3 gate Read says 8 early
+4 gate Read says 11 early
+5 gate Read makes up the record count
+6 gate Compare is always 0
+7 gate Tokens lists none
+8 gate Spell calls every reading 12
+9 gate Check passes all
+10 gate Check refuses all
+11 gate Read prefers Right
+12 gate an empty iteration fits
+13 gate Compare measures by the count of iterations
+14 gate Read writes one byte more
+15 gate Read touches the work area on refusal 10
+16 valgrind fitting looks past the end of a reading
+17 gate the start number loses its upper half
+18 gate refusal 11 has the records as its detail
+19 gate Compare says 13 of the first before 12 of the second
+20 stack fitting takes 8 KiB of stack at each level
+21 gate Tokens goes inside a tagged record
+LIST

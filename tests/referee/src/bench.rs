@@ -1,0 +1,332 @@
+//! The lines on the bench of document 01: tables T1 to T4, cases A to J and
+//! the edges.
+
+pub const T1: &[u8] = &[
+    2, 0x61, 0x61, 1, 2, 0x61, 0x61, 0, 2, 0x62, 0x62, 0, 4, 1, 2, 2, 2, 0x62, 0x62, 0, 2, 0x63,
+    0x63, 0, 4, 4, 5, 3, 3, 0, 3, 0, 3, 7, 6, 0, 5, 8, 0, 0,
+];
+pub const T2: &[u8] = &[
+    2, 0x61, 0x61, 0, 1, 0, 0, 0, 3, 0, 1, 0, 2, 0x62, 0x62, 0, 2, 0x61, 0x61, 0, 2, 0x62, 0x62, 0,
+    4, 4, 5, 0, 3, 3, 6, 0, 4, 2, 7, 0,
+];
+pub const T3: &[u8] = &[1, 0, 0, 0, 5, 0, 0, 0];
+pub const T4: &[u8] = &[1, 0, 0, 7];
+
+/// The refusal of that number with detail 0.
+pub const fn refusal(number: u64) -> u64 {
+    number << 32
+}
+
+/// One request and the answer the document states for it.
+pub struct Stated {
+    pub name: &'static str,
+    pub request: Request,
+    pub number: u64,
+    pub written: Vec<u8>,
+}
+
+#[derive(Clone)]
+pub enum Request {
+    Check { table: Vec<u8> },
+    Read { table: Vec<u8>, start: u64, line: Vec<u8>, work_len: usize },
+    Spell { table: Vec<u8>, start: u64, reading: Vec<u8> },
+    Compare { table: Vec<u8>, start: u64, first: Vec<u8>, second: Vec<u8> },
+    Tokens { table: Vec<u8>, start: u64, reading: Vec<u8> },
+}
+
+fn read(name: &'static str, table: &[u8], line: &[u8], reading: &[u8]) -> Stated {
+    let m = table.len() / 4;
+    let number = if reading.is_empty() { refusal(8) } else { reading.len() as u64 / 2 };
+    Stated {
+        name,
+        request: Request::Read {
+            table: table.to_vec(),
+            start: m as u64 - 1,
+            line: line.to_vec(),
+            work_len: m * (line.len() + 1) * (line.len() + 2) / 2,
+        },
+        number,
+        written: reading.to_vec(),
+    }
+}
+
+fn edge_read(
+    name: &'static str,
+    table: Vec<u8>,
+    line: Vec<u8>,
+    work_len: usize,
+    number: u64,
+    written: Vec<u8>,
+) -> Stated {
+    let start = table.len() as u64 / 4 - 1;
+    Stated { name, request: Request::Read { table, start, line, work_len }, number, written }
+}
+
+pub fn stated() -> Vec<Stated> {
+    let c = [5, 2, 2, 0, 2, 0, 1, 0x61, 3, 0, 4, 0, 1, 0x62, 1, 0x63];
+    let f = [4, 0, 2, 0, 1, 0x61, 2, 0, 1, 0x62];
+    let g = [4, 0, 3, 0, 0, 0, 3, 0, 4, 0, 1, 0x61, 1, 0x62];
+    let ab = [2, 0, 3, 0, 4, 0, 1, 0x61, 1, 0x62];
+    let mut d = c.to_vec();
+    d[1] = 3;
+    d.extend(ab);
+    let mut b = vec![5, 1];
+    b.extend(ab);
+    // The edge lines are read by a*.
+    let many = vec![2, 0x61, 0x61, 0, 5, 0, 0, 0];
+    let mut long = vec![5, 255];
+    long.extend([1, 0x61].repeat(255));
+    let compare = |name, first: &[u8], second: &[u8], number| Stated {
+        name,
+        request: Request::Compare {
+            table: T2.to_vec(),
+            start: 8,
+            first: first.to_vec(),
+            second: second.to_vec(),
+        },
+        number,
+        written: vec![],
+    };
+    let tokens = |name, table: &[u8], reading: &[u8], list: &[u8]| Stated {
+        name,
+        request: Request::Tokens {
+            table: table.to_vec(),
+            start: table.len() as u64 / 4 - 1,
+            reading: reading.to_vec(),
+        },
+        number: list.len() as u64 / 3,
+        written: list.to_vec(),
+    };
+    let check = |name, table: Vec<u8>, number| Stated {
+        name,
+        request: Request::Check { table },
+        number,
+        written: vec![],
+    };
+    vec![
+        read("A", T1, b"", &[5, 0]),
+        read("B", T1, b"ab", &b),
+        read("C", T1, b"abc", &c),
+        read("D", T1, b"abcab", &d),
+        tokens("D", T1, &d, &[1, 0, 1, 3, 1, 2, 2, 3, 2]),
+        read("E", T1, b"b", &[]),
+        read("F", T2, b"ab", &f),
+        compare("G", &f, &g, 1),
+        compare("G turned", &g, &f, 2),
+        compare("G same", &g, &g, 0),
+        Stated {
+            name: "H",
+            request: Request::Spell { table: T3.to_vec(), start: 1, reading: vec![5, 1, 0, 0] },
+            number: refusal(12),
+            written: vec![],
+        },
+        read("I", T3, b"", &[5, 0]),
+        read("J", T4, b"", &[0, 0]),
+        tokens("J", T4, &[0, 0], &[7, 0, 0]),
+        tokens("program, abc", T1, &c, &[1, 0, 1, 3, 1, 2]),
+        tokens("program, empty", T1, &[5, 0], &[]),
+        check("T1", T1.to_vec(), 10),
+        check("T2", T2.to_vec(), 9),
+        check("T3", T3.to_vec(), 2),
+        check("T4", T4.to_vec(), 1),
+        check("table of 1,020", [1, 0, 0, 0].repeat(255), 255),
+        check("table of 1,024", [1, 0, 0, 0].repeat(256), refusal(1)),
+        edge_read("line of 255", many.clone(), vec![0x61; 255], 65_792, 256, long),
+        edge_read("line of 256", many, vec![0x61; 256], 70_000, refusal(7), vec![]),
+        edge_read("work of 100", T1.to_vec(), b"abc".to_vec(), 100, 8, c.to_vec()),
+        edge_read("work of 99", T1.to_vec(), b"abc".to_vec(), 99, refusal(10), vec![]),
+    ]
+}
+
+#[cfg(test)]
+mod tests {
+    use super::*;
+    use crate::calls::{trace_check, trace_compare, trace_spell, trace_tokens, Reader};
+    use crate::order::rank;
+    use crate::random::{all_lines, all_tables, damaged_reading, rival, table, Grower, Rng, Room};
+    use crate::rivals::rivals;
+    use crate::table::{check, Kind, Table};
+    use crate::value::{fit, Value};
+    use crate::{posix, relation};
+    use std::cmp::Ordering;
+
+    #[test]
+    fn stated_answers() {
+        let mut reader = Reader::default();
+        for case in stated() {
+            let mut out = vec![0xa5; case.written.len() + 600];
+            let number = match &case.request {
+                Request::Check { table } => trace_check(table),
+                Request::Read { table, start, line, work_len } => {
+                    reader.trace_read(table, *start, line, *work_len, &mut out)
+                }
+                Request::Spell { table, start, reading } => {
+                    trace_spell(table, *start, reading, &mut out)
+                }
+                Request::Compare { table, start, first, second } => {
+                    trace_compare(table, *start, first, second)
+                }
+                Request::Tokens { table, start, reading } => {
+                    trace_tokens(table, *start, reading, &mut out)
+                }
+            };
+            let (front, rest) = out.split_at(case.written.len());
+            assert_eq!(number, case.number, "{}", case.name);
+            assert_eq!(front, case.written, "{}", case.name);
+            assert!(rest.iter().all(|&c| c == 0xa5), "{}", case.name);
+        }
+    }
+
+    #[test]
+    fn refusal_11_states_the_need() {
+        let mut reader = Reader::default();
+        let mut out = [0; 15];
+        let answer = reader.trace_read(T1, 9, b"abc", 100, &mut out);
+        assert_eq!(answer, (11 << 32) + 16);
+        assert_eq!(out, [0; 15]);
+        let reading = reader.reading(&check(T1).unwrap(), 9, b"abc").unwrap();
+        assert_eq!(trace_spell(T1, 9, &reading, &mut out[..2]), (11 << 32) + 3);
+        assert_eq!(trace_tokens(T1, 9, &reading, &mut out[..5]), (11 << 32) + 6);
+    }
+
+    #[test]
+    fn order_of_refusals_in_compare() {
+        let many = [2, 0x61, 0x61, 0, 5, 0, 0, 0, 5, 1, 0, 0];
+        let mut over = vec![5, 2, 5, 255];
+        over.extend([1, 0x61].repeat(255));
+        over.extend([5, 1, 1, 0x61]);
+        let one = [5, 1, 5, 1, 1, 0x61];
+        let compare = |first: &[u8], second: &[u8]| trace_compare(&many, 2, first, second);
+        assert_eq!(compare(&[0], &[0]), 12 << 32);
+        assert_eq!(compare(&over, &[0]), (12 << 32) + 1);
+        assert_eq!(compare(&over, &over), 13 << 32);
+        assert_eq!(compare(&one, &over), (13 << 32) + 1);
+        assert_eq!(compare(&one, &[5, 0]), 14 << 32);
+        assert_eq!(compare(&one, &one), 0);
+        assert_eq!(trace_compare(&many, 3, &[0], &[0]), 9 << 32);
+    }
+
+    /// s : k → v, read from the rules word by word, with L(k) as the set of
+    /// lines that have a rival.
+    fn holds(t: &Table, k: usize, s: &[u8], v: &Value) -> bool {
+        let spells = |k: usize, s: &[u8]| !rivals(t, k, s).is_empty();
+        let no_longer = |r1: usize, r2: usize, cut: usize| {
+            !(cut + 1..=s.len()).any(|p| spells(r1, &s[..p]) && spells(r2, &s[p..]))
+        };
+        match (t.kind(k), v) {
+            (Kind::Empty, Value::Void) => s.is_empty(),
+            (Kind::Range(a, b), Value::Byte(c)) => s == [*c] && a <= *c && *c <= b,
+            (Kind::Or(r1, _), Value::Left(v)) => holds(t, r1, s, v),
+            (Kind::Or(r1, r2), Value::Right(v)) => holds(t, r2, s, v) && !spells(r1, s),
+            (Kind::Seq(r1, r2), Value::Seq(v1, v2)) => (0..=s.len()).any(|cut| {
+                holds(t, r1, &s[..cut], v1) && holds(t, r2, &s[cut..], v2) && no_longer(r1, r2, cut)
+            }),
+            (Kind::Star(r), Value::Stars(vs)) => match vs.split_first() {
+                None => s.is_empty(),
+                Some((v, rest)) => (1..=s.len()).any(|cut| {
+                    holds(t, r, &s[..cut], v)
+                        && holds(t, k, &s[cut..], &Value::Stars(rest.to_vec()))
+                        && no_longer(r, k, cut)
+                }),
+            },
+            _ => false,
+        }
+    }
+
+    /// Both roads give the one rival that the rules hold for, ranked ahead of
+    /// all others.
+    fn small(t: &Table, k: usize, line: &[u8]) {
+        let all = rivals(t, k, line);
+        let by_relation = relation::read(t, k, line);
+        let by_derivatives = posix::read(t, k, line, 100_000).expect("short");
+        assert_eq!(by_relation, by_derivatives);
+        assert_eq!(by_relation.is_some(), !all.is_empty());
+        for v in &all {
+            let best = by_relation.as_ref().expect("some rival");
+            assert_eq!(holds(t, k, line, v), v == best);
+            let ranked = if v == best { Ordering::Equal } else { Ordering::Less };
+            assert_eq!(rank(best, v), ranked);
+            assert_eq!(rank(v, best), ranked.reverse());
+            assert_eq!(fit(t, k, &v.reading()).as_ref(), Some(v));
+            assert_eq!(v.line(), line);
+            let bound = t.records.len() * line.len().max(1);
+            assert!(v.reading().len() / 2 <= bound);
+        }
+    }
+
+    #[test]
+    fn small_tables() {
+        let lines = all_lines(3);
+        for records in 1..=3 {
+            all_tables(records, &mut |t| {
+                for k in 0..records {
+                    lines.iter().for_each(|line| small(t, k, line));
+                }
+            });
+        }
+    }
+
+    #[test]
+    fn random_small_tables() {
+        let mut rng = Rng::new(1);
+        for _ in 0..3000 {
+            let records = 1 + rng.below(9);
+            let t = table(&mut rng, records);
+            let k = records - 1;
+            let mut room = Room { bytes: 3, eager: false };
+            if let Some(v) = Grower::new(&t).value(&mut rng, k, &mut room) {
+                let line = v.line();
+                assert_eq!(fit(&t, k, &v.reading()), Some(v));
+                if line.len() <= 4 {
+                    small(&t, k, &line);
+                }
+            }
+        }
+    }
+
+    #[test]
+    fn longer_lines_by_both_roads() {
+        let mut rng = Rng::new(2);
+        let mut carried = 0;
+        for _ in 0..300 {
+            let records = 1 + rng.below(40);
+            let t = table(&mut rng, records);
+            let k = records - 1;
+            let mut room = Room { bytes: 60, eager: false };
+            let Some(v) = Grower::new(&t).value(&mut rng, k, &mut room) else { continue };
+            let mut line = v.line();
+            line.truncate(80);
+            let Some(one) = posix::read(&t, k, &line, 60_000) else { continue };
+            carried += 1;
+            assert_eq!(one, relation::read(&t, k, &line));
+            if let Some(best) = one {
+                let other = rival(&mut rng, &t, k, &line).expect("a rival");
+                assert_ne!(rank(&best, &other), Ordering::Greater);
+            }
+        }
+        assert!(carried > 100);
+    }
+
+    #[test]
+    fn what_fits_is_written_back() {
+        let mut rng = Rng::new(3);
+        let mut fitted = 0;
+        for _ in 0..20_000 {
+            let records = 1 + rng.below(8);
+            let t = table(&mut rng, records);
+            let k = records - 1;
+            let mut room = Room { bytes: 6, eager: false };
+            let Some(v) = Grower::new(&t).value(&mut rng, k, &mut room) else { continue };
+            let damaged = damaged_reading(&mut rng, &v.reading());
+            if let Some(w) = fit(&t, k, &damaged) {
+                fitted += 1;
+                assert_eq!(w.reading(), damaged);
+                let line = w.line();
+                if line.len() <= 3 {
+                    assert!(rivals(&t, k, &line).contains(&w));
+                }
+            }
+        }
+        assert!(fitted > 20);
+    }
+}

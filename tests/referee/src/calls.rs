@@ -1,0 +1,206 @@
+//! The five calls as document 01 states them, on slices.
+
+use crate::order;
+use crate::posix;
+use crate::relation;
+use crate::table::{check, pack, refuse, Refusal, Table};
+use crate::value::{fit, Value};
+use std::cmp::Ordering;
+
+/// Derivatives beyond this many are left to the relation alone.
+pub const BUDGET: usize = 60_000;
+
+pub fn trace_check(table: &[u8]) -> u64 {
+    pack(check(table).map(|t| t.records.len() as u64))
+}
+
+/// The work area that Read asks for.
+pub fn work_need(records: usize, line_len: usize) -> usize {
+    records * (line_len + 1) * (line_len + 2) / 2
+}
+
+/// A line that was read: by which table and record, and how.
+struct Last {
+    table: Table,
+    k: usize,
+    line: Vec<u8>,
+    reading: Option<Vec<u8>>,
+}
+
+/// Gives the POSIX reading by both roads and keeps the last one.
+#[derive(Default)]
+pub struct Reader {
+    last: Option<Last>,
+    pub by_derivatives: u64,
+    pub by_relation_alone: u64,
+}
+
+impl Reader {
+    pub fn reading(&mut self, table: &Table, k: usize, line: &[u8]) -> Option<Vec<u8>> {
+        if let Some(last) = &self.last {
+            if last.table == *table && last.k == k && last.line == line {
+                return last.reading.clone();
+            }
+        }
+        let by_relation = relation::read(table, k, line);
+        match posix::read(table, k, line, BUDGET) {
+            Some(by_derivatives) => {
+                assert_eq!(
+                    by_derivatives,
+                    by_relation,
+                    "the referee's two roads part: table {:02x?} start {k} line {line:02x?}",
+                    table.bytes()
+                );
+                self.by_derivatives += 1;
+            }
+            None => self.by_relation_alone += 1,
+        }
+        let reading = by_relation.map(|v| v.reading());
+        let last = Last { table: table.clone(), k, line: line.to_vec(), reading };
+        self.last.insert(last).reading.clone()
+    }
+
+    pub fn trace_read(
+        &mut self,
+        table: &[u8],
+        start: u64,
+        line: &[u8],
+        work_len: usize,
+        out: &mut [u8],
+    ) -> u64 {
+        pack(self.read(table, start, line, work_len, out))
+    }
+
+    fn read(
+        &mut self,
+        table: &[u8],
+        start: u64,
+        line: &[u8],
+        work_len: usize,
+        out: &mut [u8],
+    ) -> Result<u64, Refusal> {
+        let (table, k) = open(table, start)?;
+        if line.len() > 255 {
+            return refuse(7, 0);
+        }
+        if work_len < work_need(table.records.len(), line.len()) {
+            return refuse(10, 0);
+        }
+        match self.reading(&table, k, line) {
+            None => refuse(8, 0),
+            Some(reading) => {
+                put(&reading, out)?;
+                Ok(reading.len() as u64 / 2)
+            }
+        }
+    }
+}
+
+pub fn trace_spell(table: &[u8], start: u64, reading: &[u8], out: &mut [u8]) -> u64 {
+    pack(spell(table, start, reading, out))
+}
+
+pub fn trace_compare(table: &[u8], start: u64, first: &[u8], second: &[u8]) -> u64 {
+    pack(compare(table, start, first, second))
+}
+
+pub fn trace_tokens(table: &[u8], start: u64, reading: &[u8], out: &mut [u8]) -> u64 {
+    pack(tokens(table, start, reading, out))
+}
+
+/// Refusals 1 to 6, then 9.
+fn open(table: &[u8], start: u64) -> Result<(Table, usize), Refusal> {
+    let table = check(table)?;
+    match usize::try_from(start) {
+        Ok(k) if k < table.records.len() => Ok((table, k)),
+        _ => refuse(9, 0),
+    }
+}
+
+fn fitting(table: &Table, k: usize, reading: &[u8], which: usize) -> Result<Value, Refusal> {
+    match fit(table, k, reading) {
+        Some(value) => Ok(value),
+        None => refuse(12, which),
+    }
+}
+
+fn short_line(value: &Value, which: usize) -> Result<Vec<u8>, Refusal> {
+    let line = value.line();
+    if line.len() > 255 {
+        return refuse(13, which);
+    }
+    Ok(line)
+}
+
+/// Writes an answer to the front of the buffer, or refuses with 11.
+fn put(answer: &[u8], out: &mut [u8]) -> Result<(), Refusal> {
+    match out.get_mut(..answer.len()) {
+        Some(front) => {
+            front.copy_from_slice(answer);
+            Ok(())
+        }
+        None => refuse(11, answer.len()),
+    }
+}
+
+fn spell(table: &[u8], start: u64, reading: &[u8], out: &mut [u8]) -> Result<u64, Refusal> {
+    let (table, k) = open(table, start)?;
+    let value = fitting(&table, k, reading, 0)?;
+    let line = short_line(&value, 0)?;
+    put(&line, out)?;
+    Ok(line.len() as u64)
+}
+
+fn compare(table: &[u8], start: u64, first: &[u8], second: &[u8]) -> Result<u64, Refusal> {
+    let (table, k) = open(table, start)?;
+    let value_one = fitting(&table, k, first, 0)?;
+    let value_two = fitting(&table, k, second, 1)?;
+    let line_one = short_line(&value_one, 0)?;
+    let line_two = short_line(&value_two, 1)?;
+    if line_one != line_two {
+        return refuse(14, 0);
+    }
+    if first == second {
+        return Ok(0);
+    }
+    match order::rank(&value_one, &value_two) {
+        Ordering::Less => Ok(1),
+        Ordering::Greater => Ok(2),
+        Ordering::Equal => panic!("two readings of one line with the same sizes"),
+    }
+}
+
+fn tokens(table: &[u8], start: u64, reading: &[u8], out: &mut [u8]) -> Result<u64, Refusal> {
+    let (table, k) = open(table, start)?;
+    let value = fitting(&table, k, reading, 0)?;
+    short_line(&value, 0)?;
+    let mut list = Vec::new();
+    walk(&table, k, &value, &mut 0, &mut list);
+    put(&list, out)?;
+    Ok(list.len() as u64 / 3)
+}
+
+/// Walks a value parent first; the offset moves on by the bytes passed.
+fn walk(table: &Table, k: usize, value: &Value, offset: &mut usize, list: &mut Vec<u8>) {
+    use crate::table::Kind;
+    let tag = table.tag(k);
+    if tag != 0 {
+        let length = value.line().len();
+        list.extend([tag, *offset as u8, length as u8]);
+        *offset += length;
+        return;
+    }
+    match (table.kind(k), value) {
+        (Kind::Range(..), Value::Byte(_)) => *offset += 1,
+        (Kind::Or(r1, _), Value::Left(v)) => walk(table, r1, v, offset, list),
+        (Kind::Or(_, r2), Value::Right(v)) => walk(table, r2, v, offset, list),
+        (Kind::Seq(r1, r2), Value::Seq(v1, v2)) => {
+            walk(table, r1, v1, offset, list);
+            walk(table, r2, v2, offset, list);
+        }
+        (Kind::Star(r), Value::Stars(vs)) => {
+            vs.iter().for_each(|v| walk(table, r, v, offset, list))
+        }
+        _ => {}
+    }
+}

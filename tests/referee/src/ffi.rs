@@ -1,0 +1,280 @@
+//! The library under test: its prototypes, and requests put to it and to the
+//! referee with every lent byte compared.
+
+use referee::bench::Request;
+use referee::calls::{self, Reader};
+
+extern "C" {
+    fn trace_check(table: *const u8, table_len: usize) -> u64;
+    fn trace_read(
+        table: *const u8,
+        table_len: usize,
+        start: u64,
+        line: *const u8,
+        line_len: usize,
+        work: *mut u8,
+        work_len: usize,
+        out: *mut u8,
+        out_len: usize,
+    ) -> u64;
+    fn trace_spell(
+        table: *const u8,
+        table_len: usize,
+        start: u64,
+        reading: *const u8,
+        reading_len: usize,
+        out: *mut u8,
+        out_len: usize,
+    ) -> u64;
+    fn trace_compare(
+        table: *const u8,
+        table_len: usize,
+        start: u64,
+        first: *const u8,
+        first_len: usize,
+        second: *const u8,
+        second_len: usize,
+    ) -> u64;
+    fn trace_tokens(
+        table: *const u8,
+        table_len: usize,
+        start: u64,
+        reading: *const u8,
+        reading_len: usize,
+        out: *mut u8,
+        out_len: usize,
+    ) -> u64;
+}
+
+/// A request with the buffer lent for the answer and the pattern it holds.
+#[derive(Clone)]
+pub struct Case {
+    pub request: Request,
+    pub out_len: usize,
+    pub seed: u8,
+}
+
+/// How buffers are lent: between guard bytes, or exactly sized on the heap so
+/// that a memory checker sees each byte outside.
+#[derive(Clone, Copy, PartialEq)]
+pub enum Lending {
+    Guarded,
+    Exact,
+}
+
+/// The pattern goes round after this many bytes.
+const PERIOD: usize = 251;
+
+fn pattern_byte(seed: u8, i: usize) -> u8 {
+    seed.wrapping_add((i % PERIOD) as u8).wrapping_mul(151)
+}
+
+fn pattern(seed: u8, len: usize) -> Vec<u8> {
+    let once: Vec<u8> = (0..PERIOD.min(len)).map(|i| pattern_byte(seed, i)).collect();
+    let mut bytes = Vec::with_capacity(len);
+    while bytes.len() < len {
+        let more = PERIOD.min(len - bytes.len());
+        bytes.extend_from_slice(&once[..more]);
+    }
+    bytes
+}
+
+fn is_pattern(seed: u8, bytes: &[u8]) -> bool {
+    let once = pattern(seed, PERIOD);
+    bytes.chunks(PERIOD).all(|piece| *piece == once[..piece.len()])
+}
+
+/// A lent mutable slice.
+struct Lent {
+    bytes: Box<[u8]>,
+    guard: usize,
+    seed: u8,
+}
+
+impl Lent {
+    fn new(len: usize, seed: u8, lending: Lending) -> Self {
+        let guard = if lending == Lending::Guarded { 24 } else { 0 };
+        let bytes = pattern(seed, len + 2 * guard).into_boxed_slice();
+        Lent { bytes, guard, seed }
+    }
+
+    fn len(&self) -> usize {
+        self.bytes.len() - 2 * self.guard
+    }
+
+    fn pointer(&mut self) -> *mut u8 {
+        self.bytes[self.guard..].as_mut_ptr()
+    }
+
+    /// The bytes that were lent, as they are.
+    fn inside(&self) -> &[u8] {
+        &self.bytes[self.guard..self.bytes.len() - self.guard]
+    }
+
+    fn guards_hold(&self) -> bool {
+        let end = self.bytes.len() - self.guard;
+        let mut beside = (0..self.guard).chain(end..self.bytes.len());
+        beside.all(|i| self.bytes[i] == pattern_byte(self.seed, i))
+    }
+
+    fn untouched(&self) -> bool {
+        is_pattern(self.seed, &self.bytes)
+    }
+}
+
+/// The bytes of the output buffer before a call.
+fn fresh_out(case: &Case, lending: Lending) -> Vec<u8> {
+    Lent::new(case.out_len, case.seed, lending).inside().to_vec()
+}
+
+/// What the referee answers: the number and the output buffer after the call.
+fn expected(reader: &mut Reader, case: &Case, lending: Lending) -> (u64, Vec<u8>) {
+    let mut out = fresh_out(case, lending);
+    let number = match &case.request {
+        Request::Check { table } => calls::trace_check(table),
+        Request::Read { table, start, line, work_len } => {
+            reader.trace_read(table, *start, line, *work_len, &mut out)
+        }
+        Request::Spell { table, start, reading } => {
+            calls::trace_spell(table, *start, reading, &mut out)
+        }
+        Request::Compare { table, start, first, second } => {
+            calls::trace_compare(table, *start, first, second)
+        }
+        Request::Tokens { table, start, reading } => {
+            calls::trace_tokens(table, *start, reading, &mut out)
+        }
+    };
+    (number, out)
+}
+
+/// What the referee answers: the number and the bytes it writes.
+pub fn answer(reader: &mut Reader, case: &Case) -> (u64, Vec<u8>) {
+    let (number, mut out) = expected(reader, case, Lending::Guarded);
+    let width = match &case.request {
+        Request::Check { .. } | Request::Compare { .. } => 0,
+        Request::Read { .. } => 2,
+        Request::Spell { .. } => 1,
+        Request::Tokens { .. } => 3,
+    };
+    let len = if number >> 32 == 0 { number as usize * width } else { 0 };
+    out.truncate(len);
+    (number, out)
+}
+
+/// Puts the request to the library. Gives the number, the output buffer, and
+/// what was wrong with the other lent bytes, if anything.
+fn ask(case: &Case, lending: Lending) -> (u64, Vec<u8>, Option<&'static str>) {
+    let mut out = Lent::new(case.out_len, case.seed, lending);
+    let mut fault = None;
+    let number = match &case.request {
+        Request::Check { table } => {
+            let t = table.clone();
+            let number = unsafe { trace_check(t.as_ptr(), t.len()) };
+            if t != *table {
+                fault = Some("the table was changed");
+            }
+            number
+        }
+        Request::Read { table, start, line, work_len } => {
+            let (t, l) = (table.clone(), line.clone());
+            let mut work = Lent::new(*work_len, case.seed ^ 0x5a, lending);
+            let number = unsafe {
+                trace_read(
+                    t.as_ptr(),
+                    t.len(),
+                    *start,
+                    l.as_ptr(),
+                    l.len(),
+                    work.pointer(),
+                    work.len(),
+                    out.pointer(),
+                    out.len(),
+                )
+            };
+            let refusal = number >> 32;
+            let free = refusal == 0 || refusal == 8 || refusal == 11;
+            if t != *table || l != *line {
+                fault = Some("the table or the line was changed");
+            } else if !work.guards_hold() {
+                fault = Some("a byte beside the work area was changed");
+            } else if !free && !work.untouched() {
+                fault = Some("the work area was changed");
+            }
+            number
+        }
+        Request::Spell { table, start, reading } | Request::Tokens { table, start, reading } => {
+            let (t, r) = (table.clone(), reading.clone());
+            let call = match &case.request {
+                Request::Spell { .. } => trace_spell,
+                _ => trace_tokens,
+            };
+            let number = unsafe {
+                call(t.as_ptr(), t.len(), *start, r.as_ptr(), r.len(), out.pointer(), out.len())
+            };
+            if t != *table || r != *reading {
+                fault = Some("the table or the reading was changed");
+            }
+            number
+        }
+        Request::Compare { table, start, first, second } => {
+            let (t, v, w) = (table.clone(), first.clone(), second.clone());
+            let number = unsafe {
+                trace_compare(t.as_ptr(), t.len(), *start, v.as_ptr(), v.len(), w.as_ptr(), w.len())
+            };
+            if t != *table || v != *first || w != *second {
+                fault = Some("the table or a reading was changed");
+            }
+            number
+        }
+    };
+    if !out.guards_hold() {
+        fault = Some("a byte beside the output buffer was changed");
+    }
+    (number, out.inside().to_vec(), fault)
+}
+
+pub fn name(number: u64) -> String {
+    match number >> 32 {
+        0 => format!("{number}"),
+        refusal => format!("refusal {refusal}, detail {}", number & 0xffff_ffff),
+    }
+}
+
+/// The library's answer against a stated one: the number, and the output
+/// buffer as a whole.
+fn against(case: &Case, number: u64, out: &[u8], lending: Lending) -> Result<(), String> {
+    let (got, got_out, fault) = ask(case, lending);
+    if got != number {
+        return Err(format!("the answer is {}, it should be {}", name(got), name(number)));
+    }
+    if let Some(at) = (0..out.len()).find(|&i| out[i] != got_out[i]) {
+        return Err(format!(
+            "byte {at} of the output buffer is {:02x}, it should be {:02x}",
+            got_out[at], out[at]
+        ));
+    }
+    match fault {
+        Some(fault) => Err(fault.to_string()),
+        None => Ok(()),
+    }
+}
+
+/// The library's answer against a stated number and the bytes it writes.
+pub fn against_written(
+    case: &Case,
+    number: u64,
+    written: &[u8],
+    lending: Lending,
+) -> Result<(), String> {
+    let mut out = fresh_out(case, lending);
+    out[..written.len()].copy_from_slice(written);
+    against(case, number, &out, lending)
+}
+
+/// The library against the referee; gives the number they agree on.
+pub fn compare(reader: &mut Reader, case: &Case, lending: Lending) -> Result<u64, String> {
+    let (number, out) = expected(reader, case, lending);
+    against(case, number, &out, lending)?;
+    Ok(number)
+}

@@ -1,0 +1,184 @@
+//! Puts cases to the library and the referee, counts them, and stops at the
+//! first failure after making it small.
+
+use crate::ffi::{self, Case, Lending};
+use crate::shrink::{hex, show, shrink};
+use referee::bench::Request;
+use referee::calls::Reader;
+use std::collections::BTreeMap;
+use std::time::Instant;
+
+/// The answers met: the call, the refusal number (0 for a result), and in
+/// Compare the result or the detail.
+type Met = BTreeMap<(&'static str, u64, u64), u64>;
+
+/// What each call can answer.
+const ANSWERS: &[(&str, &[u64])] = &[
+    ("check", &[0, 1, 2, 3, 4, 5, 6]),
+    ("read", &[0, 1, 2, 3, 4, 5, 6, 7, 8, 9, 10, 11]),
+    ("spell", &[0, 1, 2, 3, 4, 5, 6, 9, 11, 12, 13]),
+    ("tokens", &[0, 1, 2, 3, 4, 5, 6, 9, 11, 12, 13]),
+    ("compare", &[0, 1, 2, 3, 4, 5, 6, 9, 12, 13, 14]),
+];
+
+pub struct Harness {
+    pub reader: Reader,
+    pub comparisons: u64,
+    met: Met,
+    lending: Lending,
+    origin: String,
+    since: Instant,
+}
+
+impl Harness {
+    pub fn new(lending: Lending) -> Self {
+        Harness {
+            reader: Reader::default(),
+            comparisons: 0,
+            met: Met::new(),
+            lending,
+            origin: String::new(),
+            since: Instant::now(),
+        }
+    }
+
+    /// Says where the next cases come from, for the report of a failure.
+    pub fn from(&mut self, origin: impl Into<String>) {
+        self.origin = origin.into();
+    }
+
+    /// The library against the referee.
+    pub fn put(&mut self, request: Request, out_len: usize) {
+        let case = self.case(request, out_len);
+        match ffi::compare(&mut self.reader, &case, self.lending) {
+            Ok(number) => self.meet(&case.request, number),
+            Err(message) => self.fail(&case, &message),
+        }
+    }
+
+    /// The library against a stated answer.
+    pub fn put_stated(&mut self, request: Request, out_len: usize, number: u64, written: &[u8]) {
+        let case = self.case(request, out_len);
+        if let Err(message) = ffi::against_written(&case, number, written, self.lending) {
+            self.fail(&case, &message);
+        }
+    }
+
+    /// The library against a known answer on a small stack, where the referee
+    /// itself isn't asked, not even after a failure.
+    pub fn put_known(&mut self, request: Request, out_len: usize, number: u64, written: &[u8]) {
+        let case = self.case(request, out_len);
+        if let Err(message) = ffi::against_written(&case, number, written, self.lending) {
+            println!("FAILED in {}: {message}", self.origin);
+            if show(&case).len() < 20_000 {
+                print!("{}", show(&case));
+            }
+            std::process::exit(1);
+        }
+    }
+
+    fn case(&mut self, request: Request, out_len: usize) -> Case {
+        self.comparisons += 1;
+        Case { request, out_len, seed: (self.comparisons % 256) as u8 }
+    }
+
+    /// One line for a part, and the counts start again.
+    pub fn done(&mut self, part: &str) {
+        let seconds = self.since.elapsed().as_secs_f64();
+        let (derived, direct) = (self.reader.by_derivatives, self.reader.by_relation_alone);
+        print!("{part}: {} comparisons, {seconds:.1} s", self.comparisons);
+        if derived + direct > 0 {
+            print!(" ({derived} lines read by derivatives too, {direct} by the relation alone)");
+        }
+        println!();
+        let met = std::mem::take(&mut self.met);
+        *self = Harness { met, ..Harness::new(self.lending) };
+    }
+
+    fn meet(&mut self, request: &Request, number: u64) {
+        let (refusal, rest) = (number >> 32, number & 0xffff_ffff);
+        let call = call_name(request);
+        let rest = if call == "compare" && matches!(refusal, 0 | 12 | 13) { rest } else { 0 };
+        *self.met.entry((call, refusal, rest)).or_default() += 1;
+    }
+
+    /// Says how often the rarest answer of each call was met; each must be.
+    pub fn coverage(&self) -> bool {
+        let mut whole = true;
+        for &(call, refusals) in ANSWERS {
+            let mut counts = Vec::new();
+            for &refusal in refusals {
+                let kinds: &[u64] = match (call, refusal) {
+                    ("compare", 0) => &[0, 1, 2],
+                    ("compare", 12 | 13) => &[0, 1],
+                    _ => &[0],
+                };
+                for &rest in kinds {
+                    let count = self.met.get(&(call, refusal, rest)).copied().unwrap_or(0);
+                    if count == 0 {
+                        println!("FAILED: {call} never gave {refusal} with {rest}");
+                        whole = false;
+                    }
+                    counts.push((count, refusal));
+                }
+            }
+            let (count, refusal) = counts.iter().min().expect("some answer");
+            println!("answers of {call}: the rarest ({refusal}) met {count} times");
+        }
+        whole
+    }
+
+    fn fail(&self, case: &Case, message: &str) -> ! {
+        println!("FAILED in {}: {message}", self.origin);
+        let mut reader = Reader::default();
+        let mut fails = |case: &Case| ffi::compare(&mut reader, case, self.lending).is_err();
+        if fails(case) {
+            let small = shrink(case, &mut fails);
+            let why = ffi::compare(&mut reader, &small, self.lending).unwrap_err();
+            println!("smallest case found: {why}");
+            print!("{}", show(&small));
+            let (number, written) = ffi::answer(&mut reader, &small);
+            println!("answer  {}", ffi::name(number));
+            println!("written {}", hex(&written));
+        } else {
+            println!("the case as it was put:");
+            print!("{}", show(case));
+        }
+        std::process::exit(1);
+    }
+}
+
+fn call_name(request: &Request) -> &'static str {
+    match request {
+        Request::Check { .. } => "check",
+        Request::Read { .. } => "read",
+        Request::Spell { .. } => "spell",
+        Request::Tokens { .. } => "tokens",
+        Request::Compare { .. } => "compare",
+    }
+}
+
+pub fn read(table: &[u8], start: u64, line: &[u8], work_len: usize) -> Request {
+    Request::Read { table: table.to_vec(), start, line: line.to_vec(), work_len }
+}
+
+pub fn spell(table: &[u8], start: u64, reading: &[u8]) -> Request {
+    Request::Spell { table: table.to_vec(), start, reading: reading.to_vec() }
+}
+
+pub fn tokens(table: &[u8], start: u64, reading: &[u8]) -> Request {
+    Request::Tokens { table: table.to_vec(), start, reading: reading.to_vec() }
+}
+
+pub fn compare(table: &[u8], start: u64, first: &[u8], second: &[u8]) -> Request {
+    Request::Compare {
+        table: table.to_vec(),
+        start,
+        first: first.to_vec(),
+        second: second.to_vec(),
+    }
+}
+
+pub fn check(table: &[u8]) -> Request {
+    Request::Check { table: table.to_vec() }
+}

@@ -1,0 +1,15 @@
+//! A second implementation of document 01, written from its text.
+//!
+//! Read is done twice: by derivatives with injection (`posix`) and by the
+//! rules of the relation with an automaton for the languages (`relation`).
+//! Nothing here calls the library under test.
+
+pub mod bench;
+pub mod calls;
+pub mod order;
+pub mod posix;
+pub mod random;
+pub mod relation;
+pub mod rivals;
+pub mod table;
+pub mod value;

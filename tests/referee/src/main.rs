@@ -1,0 +1,107 @@
+//! Compares libtrace.a with the referee.
+//!
+//! referee gate                 all small cases, and random ones of a fixed seed
+//! referee soak SECONDS [SEED]  random rounds until the time is up
+//! referee stack                deepest nestings on a stack of 1 MiB
+//! referee memcheck             exactly sized buffers, for valgrind
+
+mod exhaustive;
+mod ffi;
+mod harness;
+mod memcheck;
+mod sampled;
+mod shrink;
+mod stack;
+
+use ffi::Lending;
+use harness::Harness;
+use referee::random::Rng;
+use sampled::{round, Size};
+use std::time::{Duration, Instant};
+
+const GATE_SEED: u64 = 1;
+
+/// So many rounds, each from a seed of its own.
+fn rounds(h: &mut Harness, size: Size, seed: u64, count: u64) {
+    for i in 0..count {
+        one_round(h, size, seed, i);
+    }
+}
+
+fn one_round(h: &mut Harness, size: Size, seed: u64, i: u64) {
+    h.from(format!("{size:?} round {i} of seed {seed}"));
+    let mut rng = Rng::new(seed.wrapping_mul(1 << 20).wrapping_add(i * 3 + size as u64));
+    round(h, &mut rng, size);
+}
+
+fn gate() -> bool {
+    let mut h = Harness::new(Lending::Guarded);
+    exhaustive::bench(&mut h);
+    h.done("bench");
+    exhaustive::fields(&mut h);
+    h.done("Check on all small fields");
+    exhaustive::tables(&mut h, 4);
+    h.done("all tables of up to 4 records");
+    exhaustive::readings(&mut h, 3);
+    h.done("all readings of up to 2 records");
+    exhaustive::lengths(&mut h);
+    h.done("lines of every length");
+    rounds(&mut h, Size::Small, GATE_SEED, 4000);
+    h.done("random small tables");
+    rounds(&mut h, Size::Medium, GATE_SEED, 250);
+    h.done("random tables of up to 61 records");
+    rounds(&mut h, Size::Long, GATE_SEED, 16);
+    h.done("random tables of up to 255 records");
+    h.coverage()
+}
+
+fn soak(seconds: u64, seed: u64) {
+    let end = Instant::now() + Duration::from_secs(seconds);
+    let mut h = Harness::new(Lending::Guarded);
+    let mut i = 0;
+    while Instant::now() < end {
+        let size = match i % 200 {
+            0 => Size::Long,
+            1..=10 => Size::Medium,
+            _ => Size::Small,
+        };
+        one_round(&mut h, size, seed, i);
+        i += 1;
+    }
+    h.done(&format!("soak, {i} rounds of seed {seed}"));
+}
+
+fn run(arguments: &[String]) -> bool {
+    let words: Vec<&str> = arguments.iter().map(String::as_str).collect();
+    let number = |word: &str| word.parse::<u64>().ok();
+    match words[..] {
+        ["gate"] if !gate() => std::process::exit(1),
+        ["gate"] => {}
+        ["stack"] => stack::run(),
+        ["memcheck"] => memcheck::run(),
+        ["soak", seconds] => match number(seconds) {
+            Some(seconds) => soak(seconds, GATE_SEED + 1),
+            None => return false,
+        },
+        ["soak", seconds, seed] => match (number(seconds), number(seed)) {
+            (Some(seconds), Some(seed)) => soak(seconds, seed),
+            _ => return false,
+        },
+        _ => return false,
+    }
+    true
+}
+
+/// The referee walks values by recursion: it gets a stack of its own size.
+fn main() {
+    let arguments: Vec<String> = std::env::args().skip(1).collect();
+    let thread = std::thread::Builder::new().stack_size(256 << 20).spawn(move || run(&arguments));
+    match thread.expect("a thread").join() {
+        Ok(true) => {}
+        Ok(false) => {
+            eprintln!("usage: referee gate | soak SECONDS [SEED] | stack | memcheck");
+            std::process::exit(2);
+        }
+        Err(_) => std::process::exit(1),
+    }
+}

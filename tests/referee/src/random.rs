@@ -1,0 +1,386 @@
+//! Random tables, readings, lines and damages from a fixed seed.
+
+use crate::relation;
+use crate::table::{check, Kind, Record, Table};
+use crate::value::Value;
+use std::rc::Rc;
+
+/// xorshift64*
+pub struct Rng(u64);
+
+impl Rng {
+    pub fn new(seed: u64) -> Self {
+        let mut rng = Rng(seed.wrapping_mul(0x9e37_79b9_7f4a_7c15) ^ 0x5851_f42d_4c95_7f2d | 1);
+        for _ in 0..8 {
+            rng.draw();
+        }
+        rng
+    }
+
+    fn draw(&mut self) -> u64 {
+        self.0 ^= self.0 >> 12;
+        self.0 ^= self.0 << 25;
+        self.0 ^= self.0 >> 27;
+        self.0.wrapping_mul(0x2545_f491_4f6c_dd1d)
+    }
+
+    /// A number below the bound.
+    pub fn below(&mut self, bound: usize) -> usize {
+        ((self.draw() >> 33) % bound.max(1) as u64) as usize
+    }
+
+    pub fn byte(&mut self) -> u8 {
+        (self.draw() >> 40) as u8
+    }
+
+    /// True once in so many times.
+    pub fn once_in(&mut self, times: usize) -> bool {
+        self.below(times) == 0
+    }
+
+    pub fn choose<T: Clone>(&mut self, list: &[T]) -> T {
+        list[self.below(list.len())].clone()
+    }
+}
+
+/// A few letters that lie together, often at an end of the byte range.
+fn letters(rng: &mut Rng) -> (u8, u8) {
+    let count = rng.choose(&[1u8, 2, 2, 2, 3, 4]);
+    let low = rng.choose(&[0x61, 0x61, 0x61, 0, 1, 0x7f, 255 - (count - 1)]);
+    (low, low + (count - 1))
+}
+
+fn leaf(rng: &mut Rng, low: u8, high: u8) -> Kind {
+    match rng.below(40) {
+        0 => Kind::Nothing,
+        1..=7 => Kind::Empty,
+        8 => Kind::Range(0, 255),
+        9..=13 => Kind::Range(low, high),
+        _ => {
+            let count = usize::from(high - low) + 1;
+            let a = low + rng.below(count) as u8;
+            let b = if rng.once_in(6) { high } else { a };
+            Kind::Range(a, b)
+        }
+    }
+}
+
+/// A table that passes Check, of the given number of records. The pool holds
+/// the records that nobody has named yet.
+pub fn table(rng: &mut Rng, records: usize) -> Table {
+    let (low, high) = letters(rng);
+    let style = rng.below(6);
+    let tag_in = rng.choose(&[1, 2, 4, 8, 30, 1_000_000]);
+    let mut pool: Vec<usize> = Vec::new();
+    let mut list = Vec::new();
+    for k in 0..records {
+        let left = records - k;
+        let take = |rng: &mut Rng, pool: &mut Vec<usize>| match style {
+            0 | 1 => pool.swap_remove(rng.below(pool.len())),
+            2 => pool.remove(0),
+            _ => pool.pop().expect("a record nobody named"),
+        };
+        let star_in = if style == 5 { 2 } else { 5 };
+        let kind = if pool.len() > 1 && (pool.len() > left || rng.below(100) < 45) {
+            let a = take(rng, &mut pool);
+            let b = take(rng, &mut pool);
+            let (a, b) = if rng.once_in(2) { (a, b) } else { (b, a) };
+            if rng.once_in(2) {
+                Kind::Or(a, b)
+            } else {
+                Kind::Seq(a, b)
+            }
+        } else if !pool.is_empty() && rng.once_in(star_in) {
+            Kind::Star(take(rng, &mut pool))
+        } else {
+            leaf(rng, low, high)
+        };
+        let tag =
+            if rng.once_in(tag_in) { rng.choose(&[1, 2, 7, 255, (k % 255) as u8 + 1]) } else { 0 };
+        list.push(Record { kind, tag });
+        pool.push(k);
+    }
+    let table = Table { records: list };
+    debug_assert_eq!(check(&table.bytes()), Ok(table.clone()));
+    table
+}
+
+/// Grows random values of a table's records.
+pub struct Grower<'a> {
+    table: &'a Table,
+    /// The records that spell anything at all.
+    any: Vec<bool>,
+    /// The records that spell a line of one byte or more.
+    some: Vec<bool>,
+}
+
+/// How far to grow: Stars get fewer iterations once the room, counted in
+/// bytes, is used up; an eager one has as many as it can until then.
+pub struct Room {
+    pub bytes: isize,
+    pub eager: bool,
+}
+
+impl<'a> Grower<'a> {
+    pub fn new(table: &'a Table) -> Self {
+        let (mut any, mut some): (Vec<bool>, Vec<bool>) = (vec![], vec![]);
+        for record in &table.records {
+            let (x, y) = match record.kind {
+                Kind::Nothing => (false, false),
+                Kind::Empty => (true, false),
+                Kind::Range(..) => (true, true),
+                Kind::Or(a, b) => (any[a] || any[b], some[a] || some[b]),
+                Kind::Seq(a, b) => {
+                    let both = any[a] && any[b];
+                    (both, both && (some[a] || some[b]))
+                }
+                Kind::Star(a) => (true, some[a]),
+            };
+            any.push(x);
+            some.push(y);
+        }
+        Grower { table, any, some }
+    }
+
+    fn can(&self, k: usize, full: bool) -> bool {
+        if full {
+            self.some[k]
+        } else {
+            self.any[k]
+        }
+    }
+
+    /// A random value of record k, None if it spells no line.
+    pub fn value(&self, rng: &mut Rng, k: usize, room: &mut Room) -> Option<Value> {
+        self.any[k].then(|| self.grow(rng, k, false, room))
+    }
+
+    /// A value of record k, which has one; of one byte or more if `full`.
+    fn grow(&self, rng: &mut Rng, k: usize, full: bool, room: &mut Room) -> Value {
+        match self.table.kind(k) {
+            Kind::Nothing => unreachable!("Nothing has no value"),
+            Kind::Empty => Value::Void,
+            Kind::Range(a, b) => {
+                room.bytes -= 1;
+                let span = usize::from(b - a) + 1;
+                Value::Byte(a + rng.below(span) as u8)
+            }
+            Kind::Or(r1, r2) => {
+                let left = self.can(r1, full) && (!self.can(r2, full) || rng.once_in(2));
+                if left {
+                    Value::Left(Rc::new(self.grow(rng, r1, full, room)))
+                } else {
+                    Value::Right(Rc::new(self.grow(rng, r2, full, room)))
+                }
+            }
+            Kind::Seq(r1, r2) => {
+                let first_full = full && self.some[r1] && (!self.some[r2] || rng.once_in(2));
+                let v1 = self.grow(rng, r1, first_full, room);
+                let v2 = self.grow(rng, r2, full && !first_full, room);
+                Value::Seq(Rc::new(v1), Rc::new(v2))
+            }
+            Kind::Star(r) => {
+                let wanted = match rng.below(8) {
+                    _ if room.eager => 255,
+                    0 => 0,
+                    1..=3 => 1,
+                    4 | 5 => 2,
+                    6 => 1 + rng.below(6),
+                    _ => 1 + rng.below(255),
+                };
+                let mut vs = Vec::new();
+                while self.some[r] && vs.len() < 255 {
+                    let must = full && vs.is_empty();
+                    if !must && (vs.len() >= wanted || room.bytes <= 0) {
+                        break;
+                    }
+                    vs.push(Rc::new(self.grow(rng, r, true, room)));
+                }
+                Value::Stars(vs)
+            }
+        }
+    }
+}
+
+/// A reading of the line by record k with a random way at each choice.
+pub fn rival(rng: &mut Rng, table: &Table, k: usize, line: &[u8]) -> Option<Value> {
+    let lazy = rng.choose(&[1, 2, 4]);
+    let mut pick = |ways: usize| if rng.once_in(lazy) { rng.below(ways) } else { 0 };
+    relation::Reader::new(table, line).read(k, &mut pick)
+}
+
+/// A line by one small change.
+pub fn changed_line(rng: &mut Rng, line: &[u8]) -> Vec<u8> {
+    let mut line = line.to_vec();
+    let place = rng.below(line.len() + 1);
+    match rng.below(4) {
+        0 if place < line.len() => line[place] = line[place].wrapping_add(rng.choose(&[1, 255, 2])),
+        1 if place < line.len() => {
+            line.remove(place);
+        }
+        2 => line.truncate(place),
+        _ => {
+            let c = if line.is_empty() { 0x61 } else { line[rng.below(line.len())] };
+            line.insert(place, c);
+        }
+    }
+    line
+}
+
+/// A start number outside a table of so many records.
+pub fn bad_start(rng: &mut Rng, records: usize) -> u64 {
+    let m = records as u64;
+    let inside = rng.below(records) as u64;
+    rng.choose(&[m, m + 1, 255.max(m), 256, 256 + inside, 1 << 32, (1 << 32) + inside, u64::MAX])
+}
+
+/// A table with one fault, of the kind that the refusal number names. A table
+/// where the fault can't be made is given back changed in some other way.
+pub fn damaged_table(rng: &mut Rng, table: &Table, number: u32) -> Vec<u8> {
+    let mut bytes = table.bytes();
+    let m = table.records.len();
+    let k = rng.below(m);
+    let at = 4 * k;
+    match number {
+        1 => {
+            let len = bytes.len();
+            match rng.below(4) {
+                0 => bytes.truncate(0),
+                1 => bytes.truncate(len - 1 - rng.below(3)),
+                2 => bytes.extend(vec![0; 1 + rng.below(3)]),
+                _ => bytes.extend([1, 0, 0, 0].repeat(256 - m)),
+            }
+        }
+        2 => bytes[at] = rng.choose(&[6, 7, 128, 255]),
+        3 => {
+            bytes[at] = rng.choose(&[0, 1, 5]);
+            let field = if bytes[at] == 5 { 2 } else { 1 + rng.below(2) };
+            bytes[at + 1] = bytes[at + 1].min(k.saturating_sub(1) as u8);
+            bytes[at + field] = rng.choose(&[1, 255, 0x61]);
+        }
+        4 => {
+            let a = 1 + rng.below(255) as u8;
+            let b = rng.below(usize::from(a)) as u8;
+            bytes[at..at + 3].copy_from_slice(&[2, a, b]);
+        }
+        5 => {
+            let child = rng.choose(&[k, k + 1, 255]).min(255) as u8;
+            let kind = rng.choose(&[3, 4, 5]);
+            let field = if kind == 5 { 1 } else { 1 + rng.below(2) };
+            bytes[at..at + 3].copy_from_slice(&[kind, 0, if kind == 5 { 0 } else { 1 }]);
+            bytes[at + field] = child;
+        }
+        _ => {
+            // Name a child again: one that is named already, or one twice.
+            let named: Vec<usize> =
+                table.records[..k].iter().flat_map(|r| r.kind.children()).collect();
+            let child = if named.is_empty() { 0 } else { rng.choose(&named) } as u8;
+            let kind = rng.choose(&[3, 4, 5]);
+            let other = rng.below(k.max(1)) as u8;
+            let fields = match (kind, rng.below(3)) {
+                (5, _) => [5, child, 0],
+                (_, 0) => [kind, child, other],
+                (_, 1) => [kind, other, child],
+                _ => [kind, other, other],
+            };
+            bytes[at..at + 3].copy_from_slice(&fields);
+        }
+    }
+    bytes
+}
+
+/// A reading with one byte changed, cut short, extended, or a count off by one.
+pub fn damaged_reading(rng: &mut Rng, reading: &[u8]) -> Vec<u8> {
+    let mut bytes = reading.to_vec();
+    let len = bytes.len();
+    match rng.below(10) {
+        0 | 1 if len > 0 => {
+            let place = rng.below(len);
+            bytes[place] ^= 1 << rng.below(8);
+        }
+        2 if len > 0 => {
+            let place = rng.below(len);
+            bytes[place] = rng.choose(&[0, 1, 2, 3, 4, 5, 6, 255, 0x61, 0x62]);
+        }
+        3 if len > 0 => bytes.truncate(len - 1),
+        4 if len > 1 => bytes.truncate(len - 2),
+        5 => bytes.truncate(rng.below(len + 1)),
+        6 => {
+            let more = 1 + rng.below(4);
+            bytes.extend((0..more).map(|_| rng.below(6) as u8));
+        }
+        7 if len > 1 => bytes.extend_from_within(len - 2..),
+        _ => {
+            let stars: Vec<usize> = (0..len / 2).filter(|i| bytes[2 * i] == 5).collect();
+            if stars.is_empty() {
+                bytes.extend([0, 0]);
+            } else {
+                let at = 2 * rng.choose(&stars) + 1;
+                bytes[at] = bytes[at].wrapping_add(rng.choose(&[1, 255]));
+            }
+        }
+    }
+    bytes
+}
+
+/// Every leaf that a small table over the letters a and b can hold.
+pub fn small_leaves() -> Vec<Kind> {
+    vec![
+        Kind::Nothing,
+        Kind::Empty,
+        Kind::Range(0x61, 0x61),
+        Kind::Range(0x62, 0x62),
+        Kind::Range(0x61, 0x62),
+    ]
+}
+
+/// Visits all tables of exactly so many records over the letters a and b.
+pub fn all_tables(records: usize, visit: &mut dyn FnMut(&Table)) {
+    fn extend(table: &mut Table, pool: &[usize], left: usize, visit: &mut dyn FnMut(&Table)) {
+        if left == 0 {
+            return visit(table);
+        }
+        let mut kinds = small_leaves();
+        for &a in pool {
+            kinds.push(Kind::Star(a));
+            for &b in pool.iter().filter(|&&b| b != a) {
+                kinds.extend([Kind::Or(a, b), Kind::Seq(a, b)]);
+            }
+        }
+        for kind in kinds {
+            let children = kind.children();
+            let mut rest: Vec<usize> =
+                pool.iter().copied().filter(|k| !children.contains(k)).collect();
+            rest.push(table.records.len());
+            table.records.push(Record { kind, tag: 0 });
+            extend(table, &rest, left - 1, visit);
+            table.records.pop();
+        }
+    }
+    extend(&mut Table { records: vec![] }, &[], records, visit);
+}
+
+/// All lines over the letters a and b of up to so many bytes.
+pub fn all_lines(longest: usize) -> Vec<Vec<u8>> {
+    let mut lines = vec![vec![]];
+    let mut from = 0;
+    for _ in 0..longest {
+        let to = lines.len();
+        for i in from..to {
+            for c in [0x61, 0x62] {
+                let mut line: Vec<u8> = lines[i].clone();
+                line.push(c);
+                lines.push(line);
+            }
+        }
+        from = to;
+    }
+    lines
+}
+
+/// A nest of Stars over one Range of the letter a with the given tag.
+pub fn star_nest(records: usize, tag: u8) -> Table {
+    let mut list = vec![Record { kind: Kind::Range(0x61, 0x61), tag }];
+    list.extend((1..records).map(|k| Record { kind: Kind::Star(k - 1), tag: 0 }));
+    Table { records: list }
+}

@@ -1,0 +1,245 @@
+//! The deepest nestings and the longest readings of each call, on a thread of
+//! 1 MiB stack. The answers are known in closed form; the readings are built
+//! without recursion, so the thread's stack is the library's.
+
+use crate::ffi::Lending;
+use crate::harness::{check, compare, read, spell, tokens, Harness};
+use referee::bench::refusal;
+use referee::calls::work_need;
+use referee::random::star_nest;
+use referee::table::{Kind, Record, Table};
+
+const STACK: usize = 1 << 20;
+const LEVELS: usize = 254;
+
+/// The reading of so many nested Stars with the given counts (level from the
+/// bottom, count); every other level has one iteration.
+fn nest(levels: usize, counts: &[(usize, u8)]) -> Vec<u8> {
+    let mut reading = vec![1, 0x61];
+    for level in 1..=levels {
+        let count = counts.iter().find(|c| c.0 == level).map_or(1, |c| c.1);
+        let mut next = vec![5, count];
+        for _ in 0..count {
+            next.extend_from_slice(&reading);
+        }
+        reading = next;
+    }
+    reading
+}
+
+/// One iteration at each of the levels.
+fn chain(levels: usize) -> Vec<u8> {
+    let mut reading = [5, 1].repeat(levels);
+    reading.extend([1, 0x61]);
+    reading
+}
+
+/// The same count at every level: one iteration of each, the last or the
+/// first, holds the levels below, and the others are chains.
+fn spine(levels: usize, count: u8, last: bool) -> Vec<u8> {
+    let others = |level: usize| chain(level - 1).repeat(usize::from(count) - 1);
+    let mut reading = Vec::new();
+    for level in (1..=levels).rev() {
+        reading.extend([5, count]);
+        if last {
+            reading.extend(others(level));
+        }
+    }
+    reading.extend([1, 0x61]);
+    if !last {
+        (1..=levels).for_each(|level| reading.extend(others(level)));
+    }
+    reading
+}
+
+/// Spell, Tokens and Compare of a reading that fits and spells a line.
+fn walks(h: &mut Harness, table: &[u8], reading: &[u8], line: &[u8], listed: &[u8]) {
+    let start = table.len() as u64 / 4 - 1;
+    let (n, count) = (line.len(), listed.len() as u64 / 3);
+    h.put_known(spell(table, start, reading), n + 3, n as u64, line);
+    h.put_known(spell(table, start, reading), n - 1, refusal(11) + n as u64, &[]);
+    h.put_known(tokens(table, start, reading), listed.len() + 3, count, listed);
+    h.put_known(compare(table, start, reading, reading), 0, 0, &[]);
+}
+
+/// Spell, Tokens and Compare of a reading that they refuse.
+fn refused(h: &mut Harness, table: &[u8], reading: &[u8], good: &[u8], number: u64) {
+    let start = table.len() as u64 / 4 - 1;
+    let mut put = |request, answer| h.put_known(request, 300, answer, &[]);
+    put(spell(table, start, reading), refusal(number));
+    put(tokens(table, start, reading), refusal(number));
+    put(compare(table, start, reading, good), refusal(number));
+    put(compare(table, start, good, reading), refusal(number) + 1);
+}
+
+/// A reading that fits and spells over 255 bytes: as it is, with its last byte
+/// damaged, cut by one byte, and with one byte over.
+fn too_long(h: &mut Harness, table: &[u8], mut reading: Vec<u8>, good: &[u8]) {
+    refused(h, table, &reading, good, 13);
+    let last = reading.len() - 1;
+    reading[last] ^= 1;
+    refused(h, table, &reading, good, 12);
+    reading[last] ^= 1;
+    refused(h, table, &reading[..last], good, 12);
+    reading.push(0);
+    refused(h, table, &reading, good, 12);
+}
+
+fn stars(h: &mut Harness) {
+    let plain = star_nest(LEVELS + 1, 0).bytes();
+    let tagged = star_nest(LEVELS + 1, 9).bytes();
+    let listed: Vec<u8> = (0..255).flat_map(|i| [9, i, 1]).collect();
+    let line = [0x61; 255];
+    let start = LEVELS as u64;
+    h.from("Check of 254 Stars");
+    h.put_known(check(&plain), 0, 255, &[]);
+
+    h.from("254 Stars, one iteration each");
+    let thin = chain(LEVELS);
+    walks(h, &plain, &thin, b"a", &[]);
+    h.from("254 Stars, 255 iterations at the bottom");
+    let low = nest(LEVELS, &[(1, 255)]);
+    walks(h, &tagged, &low, &line, &listed);
+    h.from("254 Stars, 255 iterations on top");
+    let high = nest(LEVELS, &[(254, 255)]);
+    assert_eq!(high.len() / 2, 1 + 255 * 254);
+    walks(h, &tagged, &high, &line, &listed);
+    h.from("254 Stars, 2 iterations each, the last one deep");
+    let late = spine(LEVELS, 2, true);
+    walks(h, &tagged, &late, &line, &listed);
+    h.from("254 Stars, 2 iterations each, the first one deep");
+    let early = spine(LEVELS, 2, false);
+    walks(h, &tagged, &early, &line, &listed);
+
+    h.from("Read by 254 Stars");
+    let count = low.len() as u64 / 2;
+    let need = work_need(LEVELS + 1, 255);
+    h.put_known(read(&plain, start, &line, need), low.len() + 5, count, &low);
+    let short = refusal(11) + low.len() as u64;
+    h.put_known(read(&plain, start, &line, need), low.len() - 1, short, &[]);
+
+    // At the end of the spine, three iterations of one byte in place of one
+    // of one byte and one of two.
+    let mut flat = late.clone();
+    let end = flat.split_off(late.len() - 12);
+    assert_eq!(end, [5, 2, 5, 1, 1, 0x61, 5, 2, 1, 0x61, 1, 0x61]);
+    flat.extend([5, 3, 5, 1, 1, 0x61, 5, 1, 1, 0x61, 5, 1, 1, 0x61]);
+    // On top, a last iteration of two bytes in place of two of one byte.
+    let mut joined = vec![5, 254];
+    joined.extend(chain(LEVELS - 1).repeat(253));
+    joined.extend(nest(LEVELS - 1, &[(1, 2)]));
+    h.from("Compare in 254 Stars");
+    for (ahead, behind) in [
+        (&low, &high),
+        (&joined, &high),
+        (&low, &joined),
+        (&early, &late),
+        (&low, &early),
+        (&late, &flat),
+    ] {
+        h.put_known(compare(&plain, start, ahead, behind), 0, 1, &[]);
+        h.put_known(compare(&plain, start, behind, ahead), 0, 2, &[]);
+    }
+    h.put_known(compare(&plain, start, &thin, &high), 0, refusal(14), &[]);
+}
+
+/// Readings of over 10 MB.
+fn millions(h: &mut Harness) {
+    let plain = star_nest(LEVELS + 1, 0).bytes();
+    let good = nest(LEVELS, &[(254, 255)]);
+    let readings = [
+        ("wide on top", nest(LEVELS, &[(254, 255), (253, 80)])),
+        ("wide at the bottom", nest(LEVELS, &[(3, 80), (2, 255), (1, 255)])),
+        ("255 iterations each, the last one deep", spine(LEVELS, 255, true)),
+        ("255 iterations each, the first one deep", spine(LEVELS, 255, false)),
+    ];
+    for (name, reading) in readings {
+        assert!(reading.len() > 10_000_000);
+        h.from(format!("254 Stars, {name}"));
+        too_long(h, &plain, reading, &good);
+    }
+}
+
+/// A comb of 127 Or or Seq over Ranges of the letter a.
+fn comb(seq: bool, left: bool) -> Table {
+    let leaf = Record { kind: Kind::Range(0x61, 0x61), tag: 0 };
+    let mut records = vec![leaf];
+    for top in (0..254).step_by(2) {
+        records.push(leaf);
+        let (a, b) = if left { (top, top + 1) } else { (top + 1, top) };
+        records.push(Record { kind: if seq { Kind::Seq(a, b) } else { Kind::Or(a, b) }, tag: 0 });
+    }
+    Table { records }
+}
+
+/// All calls on a reading that is the POSIX one of its line.
+fn all_calls(h: &mut Harness, table: &Table, reading: &[u8], line: &[u8], listed: &[u8]) {
+    let bytes = table.bytes();
+    let m = table.records.len();
+    walks(h, &bytes, reading, line, listed);
+    let request = read(&bytes, m as u64 - 1, line, work_need(m, line.len()));
+    h.put_known(request, reading.len(), reading.len() as u64 / 2, reading);
+    let mut bad = reading.to_vec();
+    *bad.last_mut().expect("a byte") = 0x62;
+    refused(h, &bytes, &bad, reading, 12);
+}
+
+fn combs(h: &mut Harness) {
+    h.from("127 Seq to the left");
+    let mut reading = [4, 0].repeat(127);
+    reading.extend([1, 0x61].repeat(128));
+    all_calls(h, &comb(true, true), &reading, &[0x61; 128], &[]);
+    h.from("127 Seq to the right");
+    let mut reading = [4, 0, 1, 0x61].repeat(127);
+    reading.extend([1, 0x61]);
+    all_calls(h, &comb(true, false), &reading, &[0x61; 128], &[]);
+    h.from("127 Or to the left");
+    let mut deep = [2, 0].repeat(127);
+    deep.extend([1, 0x61]);
+    all_calls(h, &comb(false, true), &deep, b"a", &[]);
+    h.from("127 Or to the right");
+    let near = [2, 0, 1, 0x61];
+    all_calls(h, &comb(false, false), &near, b"a", &[]);
+    let table = comb(false, false).bytes();
+    let mut far = [3, 0].repeat(127);
+    far.extend([1, 0x61]);
+    walks(h, &table, &far, b"a", &[]);
+    h.put_known(compare(&table, 254, &far, &near), 0, 2, &[]);
+
+    h.from("126 tagged Empties beside a byte, 255 times over");
+    let mut records = vec![Record { kind: Kind::Range(0x61, 0x61), tag: 0 }];
+    for top in (0..252).step_by(2) {
+        records.push(Record { kind: Kind::Empty, tag: 200 });
+        records.push(Record { kind: Kind::Seq(top, top + 1), tag: 0 });
+    }
+    records.push(Record { kind: Kind::Star(252), tag: 0 });
+    let table = Table { records };
+    let mut one = [4, 0].repeat(126);
+    one.extend([1, 0x61]);
+    one.extend([0, 0].repeat(126));
+    let mut reading = vec![5, 255];
+    reading.extend(one.repeat(255));
+    let listed: Vec<u8> = (1..=255).flat_map(|i| [200, i, 0].repeat(126)).collect();
+    all_calls(h, &table, &reading, &[0x61; 255], &listed);
+    let short = refusal(11) + listed.len() as u64;
+    h.put_known(tokens(&table.bytes(), 253, &reading), listed.len() - 1, short, &[]);
+}
+
+pub fn run() {
+    type Part = fn(&mut Harness);
+    let parts: [(&str, Part); 3] = [
+        ("stack of 1 MiB, nests of Stars", stars),
+        ("stack of 1 MiB, readings of over 10 MB", millions),
+        ("stack of 1 MiB, combs of Or and Seq", combs),
+    ];
+    for (name, part) in parts {
+        let thread = std::thread::Builder::new().stack_size(STACK).spawn(move || {
+            let mut h = Harness::new(Lending::Guarded);
+            part(&mut h);
+            h.done(name);
+        });
+        if thread.expect("a thread").join().is_err() {
+            std::process::exit(1);
+        }
+    }
+}

@@ -1,0 +1,110 @@
+//! Values of the paper, the readings they are written as, and fitting.
+
+use crate::table::{Kind, Table};
+use std::rc::Rc;
+
+#[derive(Clone, PartialEq, Eq, Debug)]
+pub enum Value {
+    Void,
+    Byte(u8),
+    Left(Rc<Value>),
+    Right(Rc<Value>),
+    Seq(Rc<Value>, Rc<Value>),
+    Stars(Vec<Rc<Value>>),
+}
+
+impl Value {
+    /// The line a value spells: the paper's flat.
+    pub fn spell(&self, line: &mut Vec<u8>) {
+        match self {
+            Value::Void => {}
+            Value::Byte(c) => line.push(*c),
+            Value::Left(v) | Value::Right(v) => v.spell(line),
+            Value::Seq(v1, v2) => {
+                v1.spell(line);
+                v2.spell(line);
+            }
+            Value::Stars(vs) => vs.iter().for_each(|v| v.spell(line)),
+        }
+    }
+
+    pub fn line(&self) -> Vec<u8> {
+        let mut line = Vec::new();
+        self.spell(&mut line);
+        line
+    }
+
+    /// The reading: parent first, two bytes for each record.
+    pub fn write(&self, out: &mut Vec<u8>) {
+        match self {
+            Value::Void => out.extend([0, 0]),
+            Value::Byte(c) => out.extend([1, *c]),
+            Value::Left(v) => {
+                out.extend([2, 0]);
+                v.write(out);
+            }
+            Value::Right(v) => {
+                out.extend([3, 0]);
+                v.write(out);
+            }
+            Value::Seq(v1, v2) => {
+                out.extend([4, 0]);
+                v1.write(out);
+                v2.write(out);
+            }
+            Value::Stars(vs) => {
+                let count = u8::try_from(vs.len()).expect("a count is at most 255");
+                out.extend([5, count]);
+                vs.iter().for_each(|v| v.write(out));
+            }
+        }
+    }
+
+    pub fn reading(&self) -> Vec<u8> {
+        let mut out = Vec::new();
+        self.write(&mut out);
+        out
+    }
+}
+
+/// The value a byte sequence is a reading of, if it fits record k.
+pub fn fit(table: &Table, k: usize, bytes: &[u8]) -> Option<Value> {
+    let (value, _, rest) = element(table, k, bytes)?;
+    rest.is_empty().then_some(value)
+}
+
+/// One element at the front: its value, the length it spells, the bytes after it.
+fn element<'a>(table: &Table, k: usize, bytes: &'a [u8]) -> Option<(Value, usize, &'a [u8])> {
+    let (&[kind, argument], rest) = bytes.split_first_chunk::<2>()?;
+    match (table.kind(k), kind, argument) {
+        (Kind::Empty, 0, 0) => Some((Value::Void, 0, rest)),
+        (Kind::Range(a, b), 1, c) if a <= c && c <= b => Some((Value::Byte(c), 1, rest)),
+        (Kind::Or(r1, _), 2, 0) => {
+            let (v, n, rest) = element(table, r1, rest)?;
+            Some((Value::Left(Rc::new(v)), n, rest))
+        }
+        (Kind::Or(_, r2), 3, 0) => {
+            let (v, n, rest) = element(table, r2, rest)?;
+            Some((Value::Right(Rc::new(v)), n, rest))
+        }
+        (Kind::Seq(r1, r2), 4, 0) => {
+            let (v1, n1, rest) = element(table, r1, rest)?;
+            let (v2, n2, rest) = element(table, r2, rest)?;
+            Some((Value::Seq(Rc::new(v1), Rc::new(v2)), n1 + n2, rest))
+        }
+        (Kind::Star(r), 5, count) => {
+            let (mut vs, mut total, mut rest) = (Vec::new(), 0, rest);
+            for _ in 0..count {
+                let (v, n, after) = element(table, r, rest)?;
+                if n == 0 {
+                    return None;
+                }
+                vs.push(Rc::new(v));
+                total += n;
+                rest = after;
+            }
+            Some((Value::Stars(vs), total, rest))
+        }
+        _ => None,
+    }
+}
