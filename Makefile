@@ -1,4 +1,4 @@
-.PHONY: test outside lib demo example referee program soak tools
+.PHONY: test outside lib demo example edges referee program soak tools
 
 CC = gcc
 CFLAGS = -O2 -Wall -Wextra -Werror -Iinclude
@@ -21,7 +21,7 @@ demo:
 # The tests outside Rattle, one after the other.
 outside: tools lib
 	@mkdir -p $(BUILD)
-	@$(MAKE) --no-print-directory example program referee
+	@$(MAKE) --no-print-directory example edges program referee
 
 # valgrind, where the machine has none.
 tools:
@@ -33,6 +33,11 @@ example:
 	@$(BUILD)/commission >$(BUILD)/commission.out
 	@diff examples/commission.expected $(BUILD)/commission.out
 	@echo "example tool: ok"
+
+# Every refusal at its edge, through the calls for C.
+edges:
+	@$(CC) $(CFLAGS) tests/edges.c $(LIB) -o $(BUILD)/edges
+	@$(BUILD)/edges
 
 # The program on hard inputs.
 program:

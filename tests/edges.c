@@ -1,0 +1,185 @@
+/*
+ * Every refusal of Read, Spell, Compare and Tokens at its edge, with the answers that document 01 states; buffers are compared byte for byte.
+ * Prints the number of answers, or the first one that is wrong.
+ */
+#include <stdio.h>
+#include <stdlib.h>
+#include <string.h>
+
+#include "trace.h"
+
+#define REFUSED(number, detail) ((uint64_t)(number) << 32 | (uint64_t)(detail))
+
+typedef struct { const uint8_t *at; size_t length; } Bytes;
+#define BYTES(...) ((Bytes){(const uint8_t[]){__VA_ARGS__}, sizeof((const uint8_t[]){__VA_ARGS__})})
+static const uint8_t none[1];
+static const Bytes empty = {none, 0};
+
+static int answers;
+
+static void expect(const char *name, uint64_t got, uint64_t want)
+{
+    answers++;
+    if (got != want) {
+        printf("edges: %s: got %#llx instead of %#llx\n", name, (unsigned long long)got, (unsigned long long)want);
+        exit(1);
+    }
+}
+
+/* After a call with a buffer of so many bytes of 0xee: these bytes in front, the others left. */
+static void expect_buffer(const char *name, const uint8_t *out, size_t length, Bytes front)
+{
+    for (size_t i = 0; i < length; i++)
+        if (out[i] != (i < front.length ? front.at[i] : 0xee)) {
+            printf("edges: %s: byte %zu of the buffer\n", name, i);
+            exit(1);
+        }
+}
+
+static void spell(const char *name, Bytes table, uint64_t start, Bytes reading, size_t room, uint64_t want, Bytes front)
+{
+    uint8_t out[1024];
+    memset(out, 0xee, sizeof out);
+    expect(name, trace_spell(table.at, table.length, start, reading.at, reading.length, out, room), want);
+    expect_buffer(name, out, sizeof out, front);
+}
+
+static void tokens(const char *name, Bytes table, uint64_t start, Bytes reading, size_t room, uint64_t want, Bytes front)
+{
+    uint8_t out[1024];
+    memset(out, 0xee, sizeof out);
+    expect(name, trace_tokens(table.at, table.length, start, reading.at, reading.length, out, room), want);
+    expect_buffer(name, out, sizeof out, front);
+}
+
+static void compare(const char *name, Bytes table, uint64_t start, Bytes first, Bytes second, uint64_t want)
+{
+    expect(name, trace_compare(table.at, table.length, start, first.at, first.length, second.at, second.length), want);
+}
+
+/* The work area is filled with a pattern too: `kept` says that it must be untouched. */
+static void read(const char *name, Bytes table, uint64_t start, Bytes line, size_t work_room, size_t room, uint64_t want, Bytes front, int kept)
+{
+    static uint8_t work[200000];
+    uint8_t out[1024];
+    memset(work, 0xdd, sizeof work);
+    memset(out, 0xee, sizeof out);
+    expect(name, trace_read(table.at, table.length, start, line.at, line.length, work, work_room, out, room), want);
+    expect_buffer(name, out, sizeof out, front);
+    for (size_t i = kept ? 0 : work_room; i < sizeof work; i++)
+        if (work[i] != 0xdd) {
+            printf("edges: %s: byte %zu of the work area\n", name, i);
+            exit(1);
+        }
+}
+
+int main(void)
+{
+    Bytes t1 = BYTES(2, 97, 97, 1, 2, 97, 97, 0, 2, 98, 98, 0, 4, 1, 2, 2, 2, 98, 98, 0, 2, 99, 99, 0, 4, 4, 5, 3, 3, 0, 3, 0, 3, 7, 6, 0, 5, 8, 0, 0);
+    Bytes t2 = BYTES(2, 97, 97, 0, 1, 0, 0, 0, 3, 0, 1, 0, 2, 98, 98, 0, 2, 97, 97, 0, 2, 98, 98, 0, 4, 4, 5, 0, 3, 3, 6, 0, 4, 2, 7, 0);
+    Bytes t3 = BYTES(1, 0, 0, 0, 5, 0, 0, 0), t4 = BYTES(1, 0, 0, 7), bad = BYTES(6, 0, 0, 0);
+    Bytes ab = BYTES('a', 'b'), abc = BYTES('a', 'b', 'c');
+    Bytes stars = BYTES(5, 0), void_ = BYTES(0, 0);
+    Bytes b = BYTES(5, 1, 2, 0, 3, 0, 4, 0, 1, 97, 1, 98);
+    Bytes c = BYTES(5, 2, 2, 0, 2, 0, 1, 97, 3, 0, 4, 0, 1, 98, 1, 99);
+    Bytes d = BYTES(5, 3, 2, 0, 2, 0, 1, 97, 3, 0, 4, 0, 1, 98, 1, 99, 2, 0, 3, 0, 4, 0, 1, 97, 1, 98);
+    Bytes f = BYTES(4, 0, 2, 0, 1, 97, 2, 0, 1, 98), g = BYTES(4, 0, 3, 0, 0, 0, 3, 0, 4, 0, 1, 97, 1, 98);
+    Bytes c_tokens = BYTES(1, 0, 1, 3, 1, 2);
+
+    /* A, B, C, F, I, J both ways, D's tokens, G, H */
+    read("A", t1, 9, empty, 10, 2, 1, stars, 0);
+    spell("A", t1, 9, stars, 0, 0, empty);
+    read("B", t1, 9, ab, 60, 12, 6, b, 0);
+    spell("B", t1, 9, b, 2, 2, ab);
+    read("C", t1, 9, abc, 100, 16, 8, c, 0);
+    spell("C", t1, 9, c, 3, 3, abc);
+    tokens("D", t1, 9, d, 9, 3, BYTES(1, 0, 1, 3, 1, 2, 2, 3, 2));
+    read("E", t1, 9, BYTES('b'), 30, 100, REFUSED(8, 0), empty, 0);
+    read("F", t2, 8, ab, 54, 10, 5, f, 0);
+    spell("F", t2, 8, f, 2, 2, ab);
+    compare("G", t2, 8, f, g, 1);
+    compare("G, the other way round", t2, 8, g, f, 2);
+    compare("F against itself", t2, 8, f, f, 0);
+    spell("H", t3, 1, BYTES(5, 1, 0, 0), 10, REFUSED(12, 0), empty);
+    read("I", t3, 1, empty, 2, 2, 1, stars, 0);
+    spell("I", t3, 1, stars, 0, 0, empty);
+    read("J", t4, 0, empty, 1, 2, 1, void_, 0);
+    spell("J", t4, 0, void_, 0, 0, empty);
+    tokens("J", t4, 0, void_, 3, 1, BYTES(7, 0, 0));
+
+    /* 1 to 6 and 9, before everything else */
+    spell("a refused table", bad, 9, empty, 0, REFUSED(2, 0), empty);
+    spell("start m - 1", t1, 9, stars, 0, 0, empty);
+    spell("start m", t1, 10, stars, 0, REFUSED(9, 0), empty);
+    spell("start 2^32 + 9", t1, (1ULL << 32) + 9, stars, 0, REFUSED(9, 0), empty);
+    tokens("start m", t1, 10, empty, 0, REFUSED(9, 0), empty);
+    compare("start m", t1, 10, empty, empty, REFUSED(9, 0));
+    read("start m", t1, 10, abc, 0, 0, REFUSED(9, 0), empty, 1);
+    read("the largest start", t1, UINT64_MAX, abc, 100, 16, REFUSED(9, 0), empty, 1);
+
+    /* 11 and its detail */
+    spell("buffer of 2 for abc", t1, 9, c, 2, REFUSED(11, 3), empty);
+    tokens("buffer of 6 for two tokens", t1, 9, c, 6, 2, c_tokens);
+    tokens("buffer of 5 for two tokens", t1, 9, c, 5, REFUSED(11, 6), empty);
+    tokens("no buffer", t4, 0, void_, 0, REFUSED(11, 3), empty);
+    read("buffer of 15 for abc", t1, 9, abc, 100, 15, REFUSED(11, 16), empty, 0);
+    read("no buffer", t1, 9, empty, 10, 0, REFUSED(11, 2), empty, 0);
+
+    /* 12: too short, a byte over, a wrong argument, an empty iteration, the other table's reading */
+    spell("no byte", t1, 9, empty, 9, REFUSED(12, 0), empty);
+    spell("one byte", t1, 9, BYTES(5), 9, REFUSED(12, 0), empty);
+    spell("a byte over", t1, 9, BYTES(5, 0, 0), 9, REFUSED(12, 0), empty);
+    spell("a record over", t1, 9, BYTES(5, 0, 5, 0), 9, REFUSED(12, 0), empty);
+    spell("a count too high", t1, 9, BYTES(5, 1), 9, REFUSED(12, 0), empty);
+    spell("a wrong argument", t4, 0, BYTES(0, 1), 9, REFUSED(12, 0), empty);
+    tokens("a wrong argument", t4, 0, BYTES(0, 1), 9, REFUSED(12, 0), empty);
+    compare("12 first", t2, 8, stars, f, REFUSED(12, 0));
+    compare("12 second", t2, 8, f, stars, REFUSED(12, 1));
+    compare("12 both", t2, 8, stars, stars, REFUSED(12, 0));
+
+    /* 13 at 256 bytes: (a*)(a*), 255 bytes in the first star and 0, 1 or 2 in the second */
+    Bytes two = BYTES(2, 97, 97, 0, 5, 0, 0, 5, 2, 97, 97, 0, 5, 2, 0, 6, 4, 1, 3, 0);
+    uint8_t long_[3][522], as[255];
+    Bytes spells[3];
+    memset(as, 'a', sizeof as);
+    for (int more = 0; more < 3; more++) {
+        uint8_t *at = long_[more];
+        *at++ = 4, *at++ = 0, *at++ = 5, *at++ = 255;
+        for (int i = 0; i < 255; i++)
+            *at++ = 1, *at++ = 'a';
+        *at++ = 5, *at++ = (uint8_t)more;
+        for (int i = 0; i < more; i++)
+            *at++ = 1, *at++ = 'a';
+        spells[more] = (Bytes){long_[more], (size_t)(at - long_[more])};
+    }
+    spell("255 bytes", two, 4, spells[0], 255, 255, (Bytes){as, 255});
+    spell("255 bytes into 254", two, 4, spells[0], 254, REFUSED(11, 255), empty);
+    spell("256 bytes", two, 4, spells[1], 0, REFUSED(13, 0), empty);
+    tokens("255 bytes", two, 4, spells[0], 6, 2, BYTES(5, 0, 255, 6, 255, 0));
+    tokens("256 bytes", two, 4, spells[1], 0, REFUSED(13, 0), empty);
+    compare("255 bytes", two, 4, spells[0], spells[0], 0);
+    compare("13 first", two, 4, spells[1], spells[0], REFUSED(13, 0));
+    compare("13 second", two, 4, spells[0], spells[1], REFUSED(13, 1));
+    compare("13 both", two, 4, spells[2], spells[1], REFUSED(13, 0));
+    compare("12 second before 13 first", two, 4, spells[1], stars, REFUSED(12, 1));
+
+    /* 14 */
+    compare("14", t1, 9, b, c, REFUSED(14, 0));
+    compare("14, one of them empty", t1, 9, stars, c, REFUSED(14, 0));
+
+    /* 7 and 10, in this order, and the work area's edge */
+    uint8_t line[256], byte_star[512];
+    Bytes any = BYTES(2, 0, 255, 0, 5, 0, 0, 0);
+    memset(line, 'a', sizeof line);
+    byte_star[0] = 5, byte_star[1] = 255;
+    for (int i = 0; i < 255; i++)
+        byte_star[2 + 2 * i] = 1, byte_star[3 + 2 * i] = 'a';
+    read("99 work bytes for abc", t1, 9, abc, 99, 16, REFUSED(10, 0), empty, 1);
+    read("a line of 255", any, 1, (Bytes){line, 255}, 65792, 512, 256, (Bytes){byte_star, 512}, 0);
+    read("a line of 255, one work byte short", any, 1, (Bytes){line, 255}, 65791, 512, REFUSED(10, 0), empty, 1);
+    read("a line of 256", any, 1, (Bytes){line, 256}, 0, 0, REFUSED(7, 0), empty, 1);
+    read("a refused table", bad, 9, (Bytes){line, 256}, 0, 0, REFUSED(2, 0), empty, 1);
+
+    printf("edges: %d answers ok\n", answers);
+    return 0;
+}
