@@ -1,4 +1,4 @@
-.PHONY: test outside lib demo example edges referee program soak tools
+.PHONY: test outside lib demo example edges referee program soak bench tools
 
 CC = gcc
 CFLAGS = -O2 -Wall -Wextra -Werror -Iinclude
@@ -57,3 +57,7 @@ SEED = 7
 soak: lib
 	@cd tests/referee && TRACE_LIB_DIR=$(CURDIR)/target/staticlib CARGO_TARGET_DIR=$(CURDIR)/$(BUILD)/referee cargo build --release --quiet
 	@$(REFEREE) soak $(SECONDS) $(SEED)
+
+# Our read and tokens against other matchers: microseconds and ratios, in one run.
+bench: lib
+	@bash bench/run.sh

@@ -24,9 +24,10 @@ use Rattle.area.specs.Area.{areaSize, part}
 use Rattle.reading.specs.Codec.{encode}
 use Rattle.reading.specs.Calls.{ifRoom, after}
 use Rattle.reading.proofs.Lengths.{encode-length}
-use Rattle.matcher.specs.Walks.{Here, wrote, Given, Walked, Answered}
+use Rattle.reading.specs.Writing.{wrote}
+use Rattle.reading.proofs.Writing.{sets-front}
+use Rattle.matcher.specs.Walks.{Here, Given, Walked, Answered}
 use Rattle.matcher.proofs.Parts.{part-whole}
-use Rattle.matcher.proofs.Storing.{wrote-front}
 
 -- a reading of a line of at most 255 bytes is small
 reading-small :
@@ -111,4 +112,4 @@ module _ {t s w : List ℕ} {k : ℕ} (h : Here t s w k (length s) (length s)) w
         written : (v : Val) → Posix s (expOf t k) v → out2 ≡ encode v ++ drop (length (encode v)) out
         written v p =
             d .stored v (whole-part p) .buffer ∙ ap (λ (o : List ℕ). wrote true o 0 (encode v)) (same-out p)
-            ∙ wrote-front out (encode v) (fits v p)
+            ∙ sets-front (encode v) out (fits v p)

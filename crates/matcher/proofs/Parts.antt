@@ -4,15 +4,14 @@ use Prim.Native.Nat.{ℕ, _+_, _-_, _≤_}
 use mathlib.Core.Path.{_≡_, refl, sym, _∙_, ap}
 use mathlib.Core.List.{List, [], _∷_, _++_}
 use native.Mathlib.Omega.{arith}
-use lib.ListN.{length, getD, take, drop, length-drop}
-use lib.Seq.{length-take-le, take-add, drop-drop, drop-cons, take-at, drop-at, take-length}
+use lib.ListN.{length, getD, take, drop}
+use lib.Seq.{take-add, drop-drop, drop-cons, take-at, drop-at, take-length}
 use Rattle.area.specs.Area.{part}
 
 module _ (s : List ℕ) where
   -- a part's length
   pub part-length : (d e : ℕ) → d ≤ length s → e ≤ d → length (part s d e) ≡ e
-  unfolding part
-  part-length d e h g = length-take-le e (drop (length s - d) s) (omega (arith, length-drop (length s - d) s))
+  part-length d e h g = Rattle.area.proofs.Parts.part-length s d h e g
 
   -- the part of no bytes
   pub part-zero : (d : ℕ) → part s d 0 ≡ []

@@ -1,34 +1,15 @@
 -- Bytes stored one after the other: room for the parts, and the parts joined.
 -- Assumes nothing.
 use Prim.Native.Nat.{ℕ, suc, _+_, _≤_}
-use native.Mathlib.Nat.{add-zero, zero-add}
 use native.Mathlib.Numerals.{add-one}
 use native.Mathlib.Omega.{arith}
 use mathlib.Core.Path.{_≡_, refl, sym, _∙_, ap}
 use mathlib.Core.Bool.{Bool, true, false}
 use mathlib.Core.List.{List, [], _∷_, _++_}
-use lib.ListN.{length, set, drop, length-append}
-use lib.Seq.{sets, length-sets, sets-eq}
-use Rattle.matcher.specs.Walks.{wrote, Room, Stored}
-
-sets-append : (o : List ℕ) (at : ℕ) (xs ys : List ℕ) → sets (sets o at xs) (at + length xs) ys ≡ sets o at (xs ++ ys)
-sets-append o at [] ys = ap (λ (i : ℕ). sets o i ys) (add-zero at)
-sets-append o at (x ∷ xs) ys =
-    let e : at + length (x ∷ xs) ≡ suc at + length xs = omega arith in
-    ap (λ (i : ℕ). sets (sets (set o at x) (suc at) xs) i ys) e ∙ sets-append (set o at x) (suc at) xs ys
-
-wrote-append :
-    (b : Bool) (o : List ℕ) (at : ℕ) (xs ys : List ℕ) → wrote b (wrote b o at xs) (at + length xs) ys ≡ wrote b o at (xs ++ ys)
-wrote-append true o at xs ys = sets-append o at xs ys
-wrote-append false o at xs ys = refl
-
-wrote-length : (b : Bool) (o : List ℕ) (at : ℕ) (xs : List ℕ) → length (wrote b o at xs) ≡ length o
-wrote-length true o at xs = length-sets o at xs
-wrote-length false o at xs = refl
-
--- bytes at the front of the buffer
-pub wrote-front : (o xs : List ℕ) → length xs ≤ length o → wrote true o 0 xs ≡ xs ++ drop (length xs) o
-wrote-front o xs h = sets-eq xs o 0 (omega arith) ∙ ap (λ (i : ℕ). xs ++ drop i o) (zero-add (length xs))
+use lib.ListN.{length, set, length-append}
+use Rattle.reading.specs.Writing.{wrote}
+use Rattle.reading.proofs.Writing.{wrote-more, wrote-length}
+use Rattle.matcher.specs.Walks.{Room, Stored}
 
 -- nothing is stored yet
 pub stored-none : (o : List ℕ) (at : ℕ) (b : Bool) → Stored [] o at b o at
@@ -61,8 +42,7 @@ module _ {xs o : List ℕ} {at : ℕ} {b : Bool} {o1 : List ℕ} {n : ℕ} (p : 
       record {
         next = omega (arith, p .next, q .next, length-append xs ys);
         buffer =
-            q .buffer ∙ ap (λ (u : List ℕ). wrote b u n ys) (p .buffer) ∙ ap (λ (i : ℕ). wrote b (wrote b o at xs) i ys) (p .next)
-            ∙ wrote-append b o at xs ys;
+            q .buffer ∙ ap (λ (u : List ℕ). wrote b u n ys) (p .buffer) ∙ wrote-more b xs ys o at n (p .next);
       }
 
 -- room for the first of two parts, and for the second behind it

@@ -2,10 +2,9 @@
 -- Assumes nothing.
 use Prim.Native.Nat.{ℕ, _+_, _-_, _≤_, _<_}
 use mathlib.Core.Path.{_≡_}
-use mathlib.Core.Bool.{Bool, true, false}
+use mathlib.Core.Bool.{Bool, true}
 use mathlib.Core.List.{List}
 use lib.ListN.{length}
-use lib.Seq.{sets}
 use Rattle.regex.specs.Values.{Val, records}
 use Rattle.regex.specs.Relation.{Posix}
 use Rattle.regex.specs.Decision.{spells}
@@ -16,6 +15,7 @@ use Rattle.table.specs.Expression.{expOf}
 use Rattle.area.specs.Area.{areaSize, tells, part, Told}
 use Rattle.reading.specs.Codec.{iterations, encode}
 use Rattle.reading.specs.Calls.{ifRoom, after}
+use Rattle.reading.specs.Writing.{wrote}
 
 -- record k spells the first e of the last d bytes of the line, and the area tells the truth
 pub record Here (t s w : List ℕ) (k d e : ℕ) : Type 0 where
@@ -26,11 +26,6 @@ pub record Here (t s w : List ℕ) (k d e : ℕ) : Type 0 where
   pub left : d ≤ length s
   pub size : e ≤ d
   pub spelled : spells (expOf t k) (part s d e) ≡ true
-
--- the buffer after a walk that writes bytes at a position, or only counts them
-abbrev pub wrote : Bool → List ℕ → ℕ → List ℕ → List ℕ
-wrote true out at bytes = sets out at bytes
-wrote false out at bytes = out
 
 -- there is room for bytes at a position: nothing wraps, and the buffer holds them if they are written
 pub record Room (bytes out : List ℕ) (at : ℕ) (writing : Bool) : Type 0 where

@@ -9,5 +9,6 @@ pub mod Parts
 pub mod Wholes
 pub mod Admission
 pub mod Spelling
+pub mod Writing
 mod Shapes
 mod Copying

@@ -4,3 +4,4 @@ pub mod Fitting
 pub mod Walks
 pub mod Fitted
 pub mod Calls
+pub mod Writing

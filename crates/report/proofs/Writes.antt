@@ -6,13 +6,9 @@ use mathlib.Core.List.{List, [], _∷_, _++_}
 use native.Mathlib.Omega.{arith}
 use native.Mathlib.Numerals.{add-one}
 use lib.ListN.{length, take, drop, getD, set, length-append}
-use lib.Seq.{sets, sets-eq, length-sets, take-suc, take-suc-set, take-all, take-append-seam, length-take-le, take-length}
+use lib.Seq.{sets, length-sets, take-suc, take-suc-set, take-all, take-append-seam, length-take-le, take-length}
+use Rattle.reading.proofs.Writing.{sets-more, sets-front}
 use Rattle.report.specs.Writes.{Wrote}
-
--- a text after another
-pub sets-append : (o : List ℕ) (at next : ℕ) (xs ys : List ℕ) → next ≡ at + length xs → sets (sets o at xs) next ys ≡ sets o at (xs ++ ys)
-sets-append o at next [] ys e = ap (λ (i : ℕ). sets o i ys) (omega arith)
-sets-append o at next (x ∷ xs) ys e = sets-append (set o at x) (suc at) next xs ys (omega arith)
 
 module _ {a b : List ℕ} {at next : ℕ} {xs : List ℕ} (w : Wrote a b at next xs) where
   pub wrote-length : length b ≡ length a
@@ -23,7 +19,7 @@ module _ {a b : List ℕ} {at next : ℕ} {xs : List ℕ} (w : Wrote a b at next
   wrote-then {c} {end} {ys} v =
       record {
         moved = omega (arith, v .moved, w .moved, length-append xs ys);
-        buffer = v .buffer ∙ ap (λ (o : List ℕ). sets o next ys) (w .buffer) ∙ sets-append a at next xs ys (w .moved);
+        buffer = v .buffer ∙ ap (λ (o : List ℕ). sets o next ys) (w .buffer) ∙ sets-more xs ys a at next (w .moved);
       }
 
 -- nothing is written
@@ -50,7 +46,7 @@ pub wrote-front :
     {a b : List ℕ} {n : ℕ} {xs : List ℕ} → Wrote a b 0 n xs → n ≤ length a → (n ≡ length xs) × (b ≡ xs ++ drop (length xs) a)
 wrote-front {a} {b} {n} {xs} w h =
     let start : 0 + length xs ≡ length xs = omega arith in
-    (w .moved ∙ start, w .buffer ∙ sets-eq xs a 0 (omega (arith, w .moved)) ∙ ap (λ (i : ℕ). xs ++ drop i a) start)
+    (w .moved ∙ start, w .buffer ∙ sets-front xs a (omega (arith, w .moved)))
 
 -- equal texts
 pub wrote-as : {a b : List ℕ} {at next : ℕ} {xs ys : List ℕ} → Wrote a b at next xs → xs ≡ ys → Wrote a b at next ys

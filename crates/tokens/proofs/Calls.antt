@@ -32,7 +32,7 @@ use Rattle.tokens.specs.Tokens.{Token, tokensFrom, tokenBytes}
 use Rattle.tokens.specs.Listed.{tokensSays, tokensLeaves}
 use Rattle.tokens.specs.Walks.{Part, Listed, ListsPart}
 use Rattle.tokens.proofs.Counts.{tokens-count, bytes-count, few-records}
-use Rattle.tokens.proofs.Writing.{sets-front}
+use Rattle.reading.proofs.Writing.{sets-front}
 
 -- what is said of a fitting reading that spells at most 255 bytes
 abbrev listSays : List ℕ → ℕ → ℕ → Val → Said

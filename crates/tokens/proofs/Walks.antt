@@ -23,9 +23,11 @@ use Rattle.reading.proofs.Walks.{Known, Shaped, shaped, stepped-on}
 use Rattle.reading.proofs.Fitted.{fitted-found, fitted-leaf, fitted-left, fitted-right, fitted-other, FittedBoth, fitted-both, fitted-none, FittedMore, fitted-more, items-reads}
 use Rattle.tokens.specs.declared.Listing.{Listing}
 use Rattle.tokens.specs.Tokens.{Token, outermost, tokensBelow, tokensFrom, tokenBytes}
-use Rattle.tokens.specs.Walks.{wrote, itemTokens, Room, Part, Parts, Listed, ListsPart, ListsItems}
+use Rattle.tokens.specs.Walks.{itemTokens, Room, Part, Parts, Listed, ListsPart, ListsItems}
 use Rattle.tokens.proofs.Counts.{bytes-count}
-use Rattle.tokens.proofs.Writing.{wrote-more, wrote-none, wrote-length, bytes-append}
+use Rattle.reading.specs.Writing.{wrote}
+use Rattle.reading.proofs.Writing.{wrote-more, wrote-none, wrote-length}
+use Rattle.tokens.proofs.Writing.{bytes-append}
 
 -- the iterations that fit at a place are one value
 items-same : {t : List ℕ} {c n : ℕ} {bs : List ℕ} {at : ℕ} (x y : FittedItems t c n bs at) → (x .value ≡ y .value) × (x .rest ≡ y .rest)

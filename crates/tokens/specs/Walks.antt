@@ -2,19 +2,14 @@
 -- Assumes nothing.
 use Prim.Native.Nat.{ℕ, _+_, _*_, _-_, _≤_}
 use mathlib.Core.Path.{_≡_}
-use mathlib.Core.Bool.{Bool, true, false}
+use mathlib.Core.Bool.{Bool, true}
 use mathlib.Core.List.{List, [], _++_}
 use lib.ListN.{length}
-use lib.Seq.{sets}
 use Rattle.regex.specs.Values.{Val, void, byte, left, right, pair, none, more, flat}
 use Rattle.reading.specs.Fitted.{Fitted, FittedItems}
+use Rattle.reading.specs.Writing.{wrote}
 use Rattle.tokens.specs.declared.Listing.{Listing}
 use Rattle.tokens.specs.Tokens.{Token, tokensFrom, tokenBytes}
-
--- the buffer after some bytes at an index: with them where they are written, as it was where they are only counted
-abbrev pub wrote : Bool → List ℕ → ℕ → List ℕ → List ℕ
-wrote true out to bytes = sets out to bytes
-wrote false out to bytes = out
 
 -- the tokens of a star's iterations, each by record c
 abbrev pub itemTokens : List ℕ → ℕ → Val → ℕ → List Token

@@ -5,8 +5,9 @@ use mathlib.Core.Logic.{⊎-elim}
 use native.Mathlib.Omega.{arith}
 use borrow.Author.Needs.{needs}
 use lib.ListN.{length}
-use Rattle.tokens.specs.Walks.{wrote}
-use Rattle.tokens.proofs.Writing.{wrote-length, second-room, third-room, put-stored, put-counted}
+use Rattle.reading.specs.Writing.{wrote}
+use Rattle.reading.proofs.Writing.{wrote-length}
+use Rattle.tokens.proofs.Writing.{second-room, third-room, put-stored, put-counted}
 use Rattle.tokens.proofs.put.Statement.{statement}
 use Rattle.tokens.proofs.put.Tie as tie
 use Rattle.tokens.proofs.put.Reads as reads

@@ -1,0 +1,25 @@
+/*
+ * Without an argument: the work loads, one on a line: number, bytes, records, name. With a number: that load's ERE, its line, and for
+ * each token the tag and the capture group.
+ */
+#include <stdio.h>
+#include <stdlib.h>
+
+#include "loads.h"
+
+int main(int argc, char **argv)
+{
+    static struct load l;
+    if (argc < 2) {
+        for (int n = 0; load_get(n, &l); n++)
+            printf("%d %zu %zu %s\n", n, l.line_len, l.records, l.name);
+        return 0;
+    }
+    if (!load_get(atoi(argv[1]), &l))
+        return 2;
+    printf("%s\n%s\n", l.ere, l.line);
+    for (int i = 0; i < l.tokens; i++)
+        printf("%d %d ", l.tag[i], l.group[i]);
+    printf("\n");
+    return 0;
+}
