@@ -41,6 +41,7 @@ edges:
 
 # The program on hard inputs.
 program:
+	@[ -x target/bin/tracecut ] || rt check tracecut >/dev/null
 	@bash tests/program.sh
 
 # The second implementation against the library.

@@ -42,10 +42,16 @@ head -c 256 /dev/zero | tr '\0' a | expect "256 bytes"
 printf 'line 1 refused 8\nline 2 refused 8\nline 3 ok 1\n1 0 1\n' >want
 printf '\0\n\377\200\na' | expect "NUL and high bytes"
 
-# a table that takes any line of up to 255 bytes: (0..255)*, tagged 9
+# a table that spells any line, (0..255)*, tagged 9: the work area is enough for 254 bytes
 printf '\x02\x00\xff\x00\x05\x00\x00\x09' >rules.tab
-printf 'line 1 ok 1\n9 0 255\nline 2 ok 1\n9 0 4\nline 3 ok 1\n9 0 0\n' >want
-{ head -c 255 /dev/zero; printf '\n\0\001\377x\n\n'; } | expect "255 bytes, NUL and high bytes, empty"
+printf 'line 1 ok 1\n9 0 254\nline 2 ok 1\n9 0 4\nline 3 ok 1\n9 0 0\nline 4 refused 10\nline 5 refused 7\n' >want
+{
+    head -c 254 /dev/zero
+    printf '\n\0\001\377x\n\n'
+    head -c 255 /dev/zero
+    printf '\n'
+    head -c 256 /dev/zero
+} | expect "254, 4, 0, 255 and 256 bytes, NUL and high bytes among them"
 
 printf 'table refused 1\n' >want
 rm rules.tab
