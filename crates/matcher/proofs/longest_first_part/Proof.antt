@@ -25,7 +25,7 @@ sub-tell-2 : tie.Need-sub-tell-2 Inv-loop μ-loop
 sub-tell-2 c = omega (arith, c .before .before .before .loop .inv .inside)
 
 tell-requires-2 : tie.Need-tell-requires-2 Inv-loop μ-loop
-tell-requires-2 c κs = (c .before .before .before .before .before .pre .records, (c .before .before .before .before .before .pre .second, (omega (arith, c .before .before .before .before .before .pre .left), search-second (c .before .before .before .before .before .pre) (c .before .before .before .loop .inv))))
+tell-requires-2 c κs = (c .before .before .before .before .before .pre .records, (c .before .before .before .before .before .pre .second, (omega (arith, c .before .before .before .before .before .pre .left), omega (arith, search-second (c .before .before .before .before .before .pre) (c .before .before .before .loop .inv)))))
 
 returns : tie.Need-returns Inv-loop μ-loop
 returns c = search-found (c .before .before .before .before .before .before .before .pre) (c .before .before .before .before .before .loop .inv) (c .before .before .before .tell .ensures) (c .before .before .if1 .taken) (c .before .tell2 .ensures) (c .if2 .taken)
