@@ -9,7 +9,7 @@ use mathlib.Core.List.{List}
 use lib.ListN.{length, take, drop, length-drop}
 use lib.Seq.{length-take-le, drop-drop}
 use Rattle.regex.specs.Expressions.{Exp, seq, star}
-use Rattle.regex.specs.Decision.{spells}
+use Rattle.regex.specs.Spells.{spells}
 use Rattle.area.specs.Area.{part}
 use Rattle.area.specs.Cuts.{some, cutAt, starts, rests, startsPart, restsPart}
 use Rattle.area.proofs.Cuts.{some-same, cut-same}

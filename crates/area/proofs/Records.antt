@@ -12,7 +12,7 @@ use lib.ListN.{length, getD, set, drop}
 use lib.Seq.{getD-take, getD-drop}
 use borrow.Author.Tests.{ne-eqb, le-leb, lt-leb}
 use Rattle.regex.specs.Expressions.{ByteSet, within, holds, empty, letter, star}
-use Rattle.regex.specs.Decision.{spells}
+use Rattle.regex.specs.Spells.{spells}
 use Rattle.table.specs.Records.{count, kindAt, aAt, bAt}
 use Rattle.table.specs.Expression.{expOf}
 use Rattle.table.proofs.Laws.{exp-nothing, exp-empty, exp-letter, exp-or, exp-seq, exp-star}

@@ -11,7 +11,7 @@ use lib.ListN.{length, take, drop, length-append}
 use lib.Seq.{length-take-le, take-take, take-append-seam, take-add, drop-append-seam, drop-drop}
 use Rattle.regex.specs.Expressions.{Exp, seq, star}
 use Rattle.regex.specs.Language.{Parts, Iterated, no-more, one-more, L}
-use Rattle.regex.specs.Decision.{spells}
+use Rattle.regex.specs.Spells.{spells}
 use Rattle.regex.proofs.Languages.{iterated-head}
 use Rattle.regex.proofs.Spells.{spells-sound, spells-complete}
 use Rattle.area.specs.Cuts.{some, cutAt, starts, rests}

@@ -7,7 +7,7 @@ use mathlib.Core.List.{List}
 use lib.Dec.{leb}
 use lib.ListN.{take, drop}
 use Rattle.regex.specs.Expressions.{Exp}
-use Rattle.regex.specs.Decision.{spells}
+use Rattle.regex.specs.Spells.{spells}
 use Rattle.area.specs.Area.{part}
 
 -- some number below n passes the test

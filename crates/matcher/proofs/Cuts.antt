@@ -11,7 +11,7 @@ use Rattle.regex.specs.Expressions.{Exp, seq, star}
 use Rattle.regex.specs.Values.{Val, pair, more}
 use Rattle.regex.specs.Language.{L}
 use Rattle.regex.specs.Relation.{Longest, Posix, posix-pair, posix-more}
-use Rattle.regex.specs.Decision.{spells}
+use Rattle.regex.specs.Spells.{spells}
 use Rattle.regex.proofs.Lists.{length-pos}
 use Rattle.regex.proofs.Spells.{spells-sound, spells-complete}
 use Rattle.regex.proofs.Parse.{posix-exists}

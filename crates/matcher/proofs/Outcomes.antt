@@ -12,7 +12,8 @@ use lib.ListN.{length, drop}
 use Rattle.regex.specs.Expressions.{Exp}
 use Rattle.regex.specs.Values.{Val, records, Reads}
 use Rattle.regex.specs.Relation.{Posix}
-use Rattle.regex.specs.Decision.{Parsed, missing, spells, parse}
+use Rattle.regex.specs.Decision.{Parsed, missing, parse}
+use Rattle.regex.specs.Spells.{spells}
 use Rattle.regex.proofs.Spells.{spells-complete}
 use Rattle.regex.proofs.Flats.{posix-reads}
 use Rattle.regex.proofs.Ahead.{posix-unbeaten}

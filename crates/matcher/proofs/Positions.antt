@@ -10,7 +10,7 @@ use lib.ListN.{length}
 use Rattle.regex.specs.Expressions.{Exp, nothing, or, seq, star}
 use Rattle.regex.specs.Values.{Val}
 use Rattle.regex.specs.Relation.{Posix}
-use Rattle.regex.specs.Decision.{spells}
+use Rattle.regex.specs.Spells.{spells}
 use Rattle.regex.proofs.Spells.{spells-sound}
 use Rattle.regex.proofs.Parse.{posix-exists}
 use Rattle.table.specs.Records.{count, kindAt, aAt, bAt}

@@ -10,7 +10,7 @@ use Rattle.regex.specs.Expressions.{ByteSet, Exp, empty, letter, or, seq, star}
 use Rattle.regex.specs.Values.{Val, void, byte, left, right, none}
 use Rattle.regex.specs.Language.{Parts, Iterated, L}
 use Rattle.regex.specs.Relation.{Posix, posix-void, posix-byte, posix-left, posix-right, posix-none, posix-more}
-use Rattle.regex.specs.Decision.{spells}
+use Rattle.regex.specs.Spells.{spells}
 use Rattle.regex.proofs.Lists.{start-nil}
 use Rattle.regex.proofs.Flats.{posix-spelled}
 use Rattle.regex.proofs.Languages.{iterated-head}

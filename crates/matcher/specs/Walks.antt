@@ -7,7 +7,7 @@ use mathlib.Core.List.{List}
 use lib.ListN.{length}
 use Rattle.regex.specs.Values.{Val, records}
 use Rattle.regex.specs.Relation.{Posix}
-use Rattle.regex.specs.Decision.{spells}
+use Rattle.regex.specs.Spells.{spells}
 use Rattle.table.specs.Records.{count}
 use Rattle.table.specs.Faults.{Passes}
 use Rattle.table.specs.Answers.{Said}

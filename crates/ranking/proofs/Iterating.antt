@@ -10,7 +10,8 @@ use borrow.Author.Tests.{lt-ltb, le-ltb}
 use lib.ListN.{length, length-append, length-drop, drop}
 use Rattle.regex.specs.Expressions.{Exp, star}
 use Rattle.regex.specs.Values.{Val, none, more, flat, Reads, reads-none, reads-more}
-use Rattle.regex.specs.Ranking.{Verdict, same, first, second, rank, rankBelow, bySize, thenBy}
+use Rattle.regex.specs.Ranking.{Verdict, same, first, second, rank}
+use Rattle.regex.specs.RankingParts.{rankBelow, bySize, thenBy}
 use Rattle.regex.proofs.Sizes.{rank-size, below-more, below-more-none, below-none-more}
 use Rattle.table.specs.Expression.{expOf}
 use Rattle.reading.specs.declared.Span.{Span}

@@ -7,7 +7,8 @@ use lib.Dec.{ltb}
 use lib.ListN.{length, length-append}
 use Rattle.regex.specs.Expressions.{Exp, star}
 use Rattle.regex.specs.Values.{Val, left, right, pair, none, more, flat, Reads}
-use Rattle.regex.specs.Ranking.{Verdict, same, first, second, choose, rank, rankBelow, bySize, thenBy}
+use Rattle.regex.specs.Ranking.{Verdict, same, first, second, choose, rank}
+use Rattle.regex.specs.RankingParts.{rankBelow, bySize, thenBy}
 use Rattle.regex.proofs.Sizes.{rank-size, below-left-right, below-right-left, below-pair}
 
 -- two lengths decide once

@@ -8,7 +8,8 @@ use native.Mathlib.Omega.{arith}
 use borrow.Author.Tests.{lt-ltb, le-ltb}
 use lib.ListN.{length, length-append}
 use Rattle.regex.specs.Values.{pair, flat}
-use Rattle.regex.specs.Ranking.{Verdict, same, first, second, rank, bySize, thenBy}
+use Rattle.regex.specs.Ranking.{Verdict, same, first, second, rank}
+use Rattle.regex.specs.RankingParts.{bySize, thenBy}
 use Rattle.reading.specs.declared.Span.{Span}
 use Rattle.reading.specs.declared.Fit.the-variants.{Found}
 use Rattle.reading.specs.Walks.{fitAt, isFound}

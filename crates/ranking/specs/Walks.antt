@@ -5,7 +5,8 @@ use mathlib.Core.Path.{_≡_}
 use mathlib.Core.List.{List}
 use lib.ListN.{length}
 use Rattle.regex.specs.Values.{Val, pair, flat}
-use Rattle.regex.specs.Ranking.{Verdict, rank, bySize}
+use Rattle.regex.specs.Ranking.{Verdict, rank}
+use Rattle.regex.specs.RankingParts.{bySize}
 use Rattle.reading.specs.declared.Span.{Span}
 use Rattle.reading.specs.Fitted.{Fitted, FittedItems, spanWith}
 use Rattle.ranking.specs.declared.Compared.{Compared}

@@ -5,14 +5,12 @@ use mathlib.Core.Path.{_≡_, refl, ap}
 use mathlib.Core.List.{List, [], _∷_, map, List·Memᴰ, List·Memᴰ·cases-cons, List·Memᴰ·not-nil}
 use mathlib.Core.Logic.{⊎-elim}
 use Rattle.regex.specs.Expressions.{Exp}
-use Rattle.regex.specs.Values.{Val, flat, Reads, reads-void, reads-byte, reads-right, reads-pair}
-use Rattle.regex.specs.Language.{L}
-use Rattle.regex.specs.Relation.{Posix}
+use Rattle.regex.specs.Values.{Val, Reads, reads-void, reads-byte, reads-right, reads-pair}
 use Rattle.regex.specs.Decision.{Parsed, found, missing, parse}
 use Rattle.regex.specs.Ranking.{Verdict, rank}
-use Rattle.regex.specs.Bench.{Case, reads-as, ranks-as, Outcome, reading, verdict, computed, stated, cases, T2, G-rival}
+use Rattle.regex.specs.Bench.{Case, reads-as, ranks-as, Outcome, reading, verdict, computed, stated, cases, Meaning, T2, G-rival}
 use Rattle.regex.proofs.Parse.{parse-sound, parse-missing}
-use Rattle.regex.proofs.Ranks.{Ranked, rank-view}
+use Rattle.regex.proofs.Ranks.{rank-view}
 
 -- every case comes out as the document states it
 pub cases-hold : map computed cases ≡ map stated cases
@@ -24,12 +22,6 @@ map-same :
 map-same f g [] e x m = absurd (List·Memᴰ·not-nil m)
 map-same f g (y ∷ xs) e x m =
     ⊎-elim (λ (p : x ≡ y). rw p (cc)) (λ n. map-same f g xs (cc) x n) (List·Memᴰ·cases-cons m)
-
--- what a case says of the relation and of the precedence
-abbrev pub Meaning : Case → Type 0
-Meaning (reads-as r s (found v)) = Posix s r v
-Meaning (reads-as r s missing) = ¬ (L r s)
-Meaning (ranks-as r v w d) = Reads r v → Reads r w → flat v ≡ flat w → Ranked v w d
 
 reading-means : (r : Exp) (s : List ℕ) (p : Parsed) → parse r s ≡ p → Meaning (reads-as r s p)
 reading-means r s (found v) e = parse-sound r s v e

@@ -27,8 +27,8 @@ use Rattle.regex.specs.Values.{
   reads-none,
   reads-more,
 }
-use Rattle.regex.specs.Precedence.{Ahead}
-use Rattle.regex.specs.Ranking.{Verdict, same, first, second, sizesBelow, sizes, choose, firstLarger, rank}
+use Rattle.regex.specs.Precedence.{Ahead, Once}
+use Rattle.regex.specs.Ranking.{Verdict, same, first, second, sizesBelow, sizes, choose, firstLarger, rank, Ranked, is-same, is-first, is-second}
 use Rattle.regex.proofs.Lists.{Split, shorter, equal, longer, split-cases, start-nil, length-pos}
 use Rattle.regex.proofs.Paths.{ahead-irreflexive, ahead-asymmetric}
 use Rattle.regex.proofs.Inside.{
@@ -76,12 +76,6 @@ decided c n (x ∷ xs) (x′ ∷ xs′) ys ys′ e = heads (ltb x′ x) (ltb x x
 equal-front : (xs ys ys′ : List ℕ) → firstLarger (xs ++ ys) (xs ++ ys′) ≡ firstLarger ys ys′
 equal-front [] ys ys′ = refl
 equal-front (x ∷ xs) ys ys′ = equal-head {x = x} (xs ++ ys) (xs ++ ys′) refl ∙ equal-front xs ys ys′
-
--- what the verdict says of v and w
-pub data Ranked (v w : Val) : Verdict → Type 0 where
-  is-same : v ≡ w → Ranked v w same
-  is-first : Ahead v w → Ranked v w first
-  is-second : Ahead w v → Ranked v w second
 
 -- a verdict on parts is one on the wholes that rank as the parts do
 ranked-map :
@@ -174,13 +168,6 @@ verdict-unique (is-first a) (is-second b) = absurd (ahead-asymmetric a b)
 verdict-unique {v} (is-second a) (is-same h) = absurd (ahead-irreflexive v (rw (← h) at a))
 verdict-unique (is-second a) (is-first b) = absurd (ahead-asymmetric a b)
 verdict-unique (is-second a) (is-second b) = refl
-
--- exactly one holds: the values are the same, the first ranks ahead, the second does
-pub record Once (v w : Val) : Type 0 where
-  pub one : (v ≡ w) ⊎ Ahead v w ⊎ Ahead w v
-  pub same-not-first : v ≡ w → ¬ (Ahead v w)
-  pub same-not-second : v ≡ w → ¬ (Ahead w v)
-  pub first-not-second : Ahead v w → ¬ (Ahead w v)
 
 module _ {r : Exp} {v w : Val} (p : Reads r v) (q : Reads r w) (e : flat v ≡ flat w) where
   -- rank says first just where the first reading ranks ahead

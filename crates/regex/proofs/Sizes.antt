@@ -27,7 +27,8 @@ use Rattle.regex.specs.Values.{
   reads-none,
   reads-more,
 }
-use Rattle.regex.specs.Ranking.{Verdict, same, first, second, sizesBelow, sizes, choose, firstLarger, rank, bySize, thenBy, rankBelow}
+use Rattle.regex.specs.Ranking.{Verdict, same, first, second, sizesBelow, sizes, choose, firstLarger, rank}
+use Rattle.regex.specs.RankingParts.{bySize, thenBy, rankBelow}
 
 -- the first verdict that is not same, of three
 then-assoc : (a b c : Verdict) → thenBy (thenBy a b) c ≡ thenBy a (thenBy b c)

@@ -10,7 +10,7 @@ use mathlib.Core.Logic.{_⊎_, inl, inr, ⊎-map}
 use lib.ListN.{length}
 use Rattle.regex.specs.Expressions.{Exp, nothing, empty, letter, or, seq, star}
 use Rattle.regex.specs.Language.{Parts, Iterated, no-more, one-more, L}
-use Rattle.regex.specs.Decision.{someCut, someCuts, spells}
+use Rattle.regex.specs.Spells.{someCut, someCuts, spells}
 use Rattle.regex.proofs.Lists.{rest-length}
 use Rattle.regex.proofs.Languages.{parts-map, iterated-map, iterated-head}
 

@@ -1,11 +1,14 @@
 -- Document 01's lines on the bench, as expressions and values: T1, T2, T3 and the cases A to D (D's reading), E, F, G and I.
 -- Assumes nothing.
 use Prim.Native.Nat.{ℕ}
+use mathlib.Core.Path.{_≡_}
 use mathlib.Core.List.{List, [], _∷_}
 use Rattle.regex.specs.Expressions.{within, Exp, empty, letter, or, seq, star}
-use Rattle.regex.specs.Values.{Val, void, byte, left, right, pair, none, more}
+use Rattle.regex.specs.Values.{Val, void, byte, left, right, pair, none, more, flat, Reads}
+use Rattle.regex.specs.Language.{L}
+use Rattle.regex.specs.Relation.{Posix}
 use Rattle.regex.specs.Decision.{Parsed, found, missing, parse}
-use Rattle.regex.specs.Ranking.{Verdict, first, rank}
+use Rattle.regex.specs.Ranking.{Verdict, first, rank, Ranked}
 
 -- the letter of one byte
 abbrev only : ℕ → Exp
@@ -59,6 +62,12 @@ stated (ranks-as r v w d) = verdict d
 abbrev pub computed : Case → Outcome
 computed (reads-as r s p) = reading (parse r s)
 computed (ranks-as r v w d) = verdict (rank v w)
+
+-- what a case says of the relation and of the precedence
+abbrev pub Meaning : Case → Type 0
+Meaning (reads-as r s (found v)) = Posix s r v
+Meaning (reads-as r s missing) = ¬ (L r s)
+Meaning (ranks-as r v w d) = Reads r v → Reads r w → flat v ≡ flat w → Ranked v w d
 
 abbrev pub cases : List Case
 cases =

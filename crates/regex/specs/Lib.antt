@@ -1,4 +1,5 @@
--- The theory's definitions, in the order in which they are read.
+-- The theory's definitions.
+-- What the calls' contracts and the promises cite, in the order in which they are read.
 pub mod Expressions
 pub mod Values
 pub mod Language
@@ -7,3 +8,6 @@ pub mod Precedence
 pub mod Decision
 pub mod Ranking
 pub mod Bench
+-- What only the functions and proofs inside go by.
+pub mod Spells
+pub mod RankingParts

@@ -3,6 +3,7 @@
 use Prim.Native.Nat.{ℕ, zero, suc, _<_}
 use mathlib.Core.Path.{_≡_}
 use mathlib.Core.List.{List, [], _∷_}
+use mathlib.Core.Logic.{_⊎_}
 use lib.ListN.{length}
 use Rattle.regex.specs.Values.{Val, void, byte, left, right, pair, none, more, flat}
 
@@ -42,3 +43,10 @@ pub record Ahead (v w : Val) : Type 0 where
   pub path : List ℕ
   pub larger : sizeAt w path < sizeAt v path
   pub same-before : (q : List ℕ) → Before q path → sizeAt v q ≡ sizeAt w q
+
+-- exactly one holds: the values are the same, the first ranks ahead, the second does
+pub record Once (v w : Val) : Type 0 where
+  pub one : (v ≡ w) ⊎ Ahead v w ⊎ Ahead w v
+  pub same-not-first : v ≡ w → ¬ (Ahead v w)
+  pub same-not-second : v ≡ w → ¬ (Ahead w v)
+  pub first-not-second : Ahead v w → ¬ (Ahead w v)

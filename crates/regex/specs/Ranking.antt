@@ -1,11 +1,14 @@
--- The executable comparison of two readings: their sizes in the order of the paths, compared number by number.
+-- The executable comparison of two readings: their sizes in the order of the paths, compared number by number; and what
+-- its verdict says of the precedence.
 -- Assumes nothing.
 use Prim.Native.Nat.{ℕ, suc}
+use mathlib.Core.Path.{_≡_}
 use mathlib.Core.Bool.{Bool, true, false}
 use mathlib.Core.List.{List, [], _∷_, _++_}
 use lib.Dec.{ltb}
 use lib.ListN.{length}
 use Rattle.regex.specs.Values.{Val, void, byte, left, right, pair, none, more, flat}
+use Rattle.regex.specs.Precedence.{Ahead}
 
 -- Compare's answers 0, 1 and 2: the same, the first ranks ahead, the second does
 pub data Verdict : Type 0 where
@@ -43,16 +46,8 @@ firstLarger (x ∷ xs) (y ∷ ys) = choose (ltb y x) first (choose (ltb x y) sec
 abbrev pub rank : Val → Val → Verdict
 rank v w = firstLarger (sizes v) (sizes w)
 
--- the same by parts: the first verdict that is not `same`
-abbrev pub thenBy : Verdict → Verdict → Verdict
-thenBy same d = d
-thenBy first d = first
-thenBy second d = second
-
--- the verdict of two lengths, and where they are equal another
-abbrev pub bySize : ℕ → ℕ → Verdict → Verdict
-bySize m n d = choose (ltb n m) first (choose (ltb m n) second d)
-
--- the verdict below the roots of two readings
-abbrev pub rankBelow : Val → Val → Verdict
-rankBelow v w = firstLarger (sizesBelow v) (sizesBelow w)
+-- what a verdict on v and w says of the precedence
+pub data Ranked (v w : Val) : Verdict → Type 0 where
+  is-same : v ≡ w → Ranked v w same
+  is-first : Ahead v w → Ranked v w first
+  is-second : Ahead w v → Ranked v w second
