@@ -4,4 +4,5 @@ pub mod Verdicts
 pub mod Iterating
 pub mod Lines
 pub mod Answering
-pub mod Precedence
+pub mod CompareRanks
+pub mod Misfits

@@ -14,6 +14,7 @@ ghost use Rattle.table.specs.Answers.{says};
 ghost use Rattle.reading.specs.Fitting.{Fits, spelled};
 ghost use Rattle.reading.specs.Fitted.{Fitted, FittedItems};
 ghost use Rattle.ranking.specs.Answers.{verdictNumber, sameLine, compareValues, compareSays, chosen, the-first, the-second, neither};
+ghost use Rattle.ranking.specs.OneLine.{OneLine, AnswersPrecedence};
 ghost use Rattle.ranking.specs.Walks.{FittedPair, Compares, ComparesBySize, ComparesPairs, ComparesItems, Spans};
 use reading::Place;
 use reading::Shape;
@@ -329,6 +330,8 @@ fn compare_fitting(
 // Compare: 0 if two readings are the same, 1 if the first ranks ahead, 2 if the second does.
 pub fn compare(table: &[u8], start: usize, first: &[u8], second: &[u8]) -> Answer
     ensures answer { λ r. ⌜ says r ≡ compareSays (now (table .entry)) start (now (first .entry)) (now (second .entry)) ⌝ }
+    ensures precedence { λ r. ⌜ ((o : OneLine (now (table .entry)) start (now (first .entry)) (now (second .entry)))
+        → AnswersPrecedence (λ x. says r ≡ x) (now (first .entry)) (now (second .entry)) (o .first .value) (o .second .value)) ⌝ }
 {
     let admitted = reading::admit(table, start);
     if let Answer::Refused(why) = admitted {

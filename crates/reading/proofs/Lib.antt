@@ -9,6 +9,7 @@ pub mod Parts
 pub mod Wholes
 pub mod Admission
 pub mod Spelling
+pub mod Misfits
 pub mod Writing
 mod Shapes
 mod Copying

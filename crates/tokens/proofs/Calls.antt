@@ -4,6 +4,7 @@ use Prim.Native.Nat.{ℕ, _+_, _*_, _/_, _≤_, _<_}
 use mathlib.Core.Path.{_≡_, refl, sym, _∙_, ap}
 use mathlib.Core.Bool.{Bool, true, false, false≢true}
 use mathlib.Core.List.{List, [], _++_, append-nil}
+use mathlib.Core.Logic.{_↔_}
 use native.Mathlib.Omega.{arith}
 use borrow.Author.Tests.{lt-ltb, le-ltb}
 use lib.ListN.{length, drop}
@@ -27,6 +28,7 @@ use Rattle.reading.proofs.Fitting.{fits-found}
 use Rattle.reading.proofs.Admission.{Admitted, start-inside, refusal-numbers, not-admitted}
 use Rattle.reading.proofs.Wholes.{Reading}
 use Rattle.reading.proofs.Spelling.{fits-missing, fits-long, fits-short}
+use Rattle.reading.proofs.Misfits.{writes-unfit}
 use Rattle.tokens.specs.declared.Listing.{Listing}
 use Rattle.tokens.specs.Tokens.{Token, tokensFrom, tokenBytes}
 use Rattle.tokens.specs.Listed.{tokensSays, tokensLeaves}
@@ -173,3 +175,9 @@ tokens-writes t k bs out p l f short room =
     let w : Reading t k bs (length (flat (f .value))) = record { fitting = f; size = refl } in
     let a : Admitted t k = start-inside t k p l in
     (said-done out a w short room, left-done out a w short room)
+
+-- and says 12 just of bytes that do not fit
+pub tokens-misfits :
+    (t : List ℕ) (k : ℕ) (bs : List ℕ) (room : ℕ) → Passes t → k < count t → (tokensSays t k bs room ≡ refuses 12 0) ↔ ¬ (Fits t k bs)
+unfolding tokensSays
+tokens-misfits t k bs room = writes-unfit t k bs room (listBytes t k) (λ v. length (tokensFrom t k v 0))

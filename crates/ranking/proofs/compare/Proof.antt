@@ -1,8 +1,9 @@
--- `ranking::compare` meets its contract: one law of Answering for each way out. Assumes nothing.
+-- `ranking::compare` meets its contract: one law of Answering for each way out, and the precedence from each. Assumes nothing.
 use borrow.Author.Needs.{needs}
 use Rattle.reading.proofs.Admission.{Admitted, admitted}
 use Rattle.reading.proofs.Wholes.{Reading, whole-reading, whole-missing}
 use Rattle.ranking.proofs.Answering.{compare-table, misfit-first, misfit-second, both-fit, whole-size}
+use Rattle.ranking.proofs.CompareRanks.{with-precedence}
 use Rattle.ranking.proofs.compare.Statement.{statement}
 use Rattle.ranking.proofs.compare.Tie as tie
 
@@ -22,7 +23,7 @@ enum-known-admitted : tie.Need-enum-known-admitted
 enum-known-admitted c = search needs
 
 returns : tie.Need-returns
-returns c = compare-table (c .before .before .before .before .before .before .before .args .table .now) (c .before .before .before .before .before .before .before .args .start) (c .before .before .before .before .before .before .before .args .first .now) (c .before .before .before .before .before .before .before .args .second .now) _ _ (c .before .before .before .admit .ensures) (c .before .admitted .given .1)
+returns c = with-precedence _ _ _ _ (compare-table (c .before .before .before .before .before .before .before .args .table .now) (c .before .before .before .before .before .before .before .args .start) (c .before .before .before .before .before .before .before .args .first .now) (c .before .before .before .before .before .before .before .args .second .now) _ _ (c .before .before .before .admit .ensures) (c .before .admitted .given .1))
 
 enum-told : tie.Need-enum-told
 enum-told c = search needs
@@ -49,13 +50,13 @@ enum-told-3 : tie.Need-enum-told-3
 enum-told-3 c = search needs
 
 returns-2 : tie.Need-returns-2
-returns-2 c = both-fit (c .before .before .before .before .before .before .before .before .before .before .before .before .before .before .before .args .table .now) (c .before .before .before .before .before .before .before .before .before .before .before .before .before .before .before .args .start) (c .before .before .before .before .before .before .before .before .before .before .before .before .before .before .before .args .first .now) (c .before .before .before .before .before .before .before .before .before .before .before .before .before .before .before .args .second .now) (admission (c .before .before .before .before .before .before .before .before .before)) ((one (c .before .before .before .before .before .before)) .fitting) ((two (c .before .before)) .fitting) _ (c .compare-fitting .ensures ((one (c .before .before .before .before .before .before)) .fitting) ((two (c .before .before)) .fitting))
+returns-2 c = with-precedence _ _ _ _ (both-fit (c .before .before .before .before .before .before .before .before .before .before .before .before .before .before .before .args .table .now) (c .before .before .before .before .before .before .before .before .before .before .before .before .before .before .before .args .start) (c .before .before .before .before .before .before .before .before .before .before .before .before .before .before .before .args .first .now) (c .before .before .before .before .before .before .before .before .before .before .before .before .before .before .before .args .second .now) (admission (c .before .before .before .before .before .before .before .before .before)) ((one (c .before .before .before .before .before .before)) .fitting) ((two (c .before .before)) .fitting) _ (c .compare-fitting .ensures ((one (c .before .before .before .before .before .before)) .fitting) ((two (c .before .before)) .fitting)))
 
 returns-3 : tie.Need-returns-3
-returns-3 c = misfit-second (c .before .before .before .before .before .before .before .before .before .before .before .before .before .args .table .now) (c .before .before .before .before .before .before .before .before .before .before .before .before .before .args .start) (c .before .before .before .before .before .before .before .before .before .before .before .before .before .args .first .now) (c .before .before .before .before .before .before .before .before .before .before .before .before .before .args .second .now) (admission (c .before .before .before .before .before .before .before)) ((one (c .before .before .before .before)) .fitting) (whole-missing _ _ _ _ (c .before .before .fit-whole2 .ensures) (c .enum-told2 .given .1))
+returns-3 c = with-precedence _ _ _ _ (misfit-second (c .before .before .before .before .before .before .before .before .before .before .before .before .before .args .table .now) (c .before .before .before .before .before .before .before .before .before .before .before .before .before .args .start) (c .before .before .before .before .before .before .before .before .before .before .before .before .before .args .first .now) (c .before .before .before .before .before .before .before .before .before .before .before .before .before .args .second .now) (admission (c .before .before .before .before .before .before .before)) ((one (c .before .before .before .before)) .fitting) (whole-missing _ _ _ _ (c .before .before .fit-whole2 .ensures) (c .enum-told2 .given .1)))
 
 returns-4 : tie.Need-returns-4
-returns-4 c = misfit-first (c .before .before .before .before .before .before .before .before .before .args .table .now) (c .before .before .before .before .before .before .before .before .before .args .start) (c .before .before .before .before .before .before .before .before .before .args .first .now) (c .before .before .before .before .before .before .before .before .before .args .second .now) (admission (c .before .before .before)) (whole-missing _ _ _ _ (c .before .before .fit-whole .ensures) (c .enum-told3 .given .1))
+returns-4 c = with-precedence _ _ _ _ (misfit-first (c .before .before .before .before .before .before .before .before .before .args .table .now) (c .before .before .before .before .before .before .before .before .before .args .start) (c .before .before .before .before .before .before .before .before .before .args .first .now) (c .before .before .before .before .before .before .before .before .before .args .second .now) (admission (c .before .before .before)) (whole-missing _ _ _ _ (c .before .before .fit-whole .ensures) (c .enum-told3 .given .1)))
 
 pub compare-spec : {M : Type 1} → statement M
 compare-spec =
