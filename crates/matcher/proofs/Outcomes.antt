@@ -35,9 +35,11 @@ use Rattle.reading.proofs.Codec.{decode-complete}
 use Rattle.reading.proofs.Lengths.{spelled-fits}
 use Rattle.reading.proofs.Admission.{Admitted, refusal-numbers, not-admitted}
 use Rattle.matcher.specs.Calls.{workSize, readParsed, readSays, readLeaves, keepsWork, PosixWritten, Unbeaten}
+use Rattle.matcher.specs.Demands.{Setting, NoneOutranks}
 use Rattle.matcher.specs.Walks.{Here, Answered}
 use Rattle.matcher.proofs.Parts.{part-whole}
 use Rattle.matcher.proofs.Positions.{reading}
+use Rattle.matcher.proofs.Rivals.{outranks}
 
 -- Read's contract, in the order of its clauses
 abbrev pub Outcome : List ℕ → ℕ → List ℕ → List ℕ → List ℕ → List ℕ → List ℕ → Said → Type 0
@@ -46,7 +48,8 @@ Outcome t k s work out work1 out1 said =
     × ((out1 ≡ readLeaves t k s (length work) out)
     × ((keepsWork (readSays t k s (length work) (length out)) ≡ true → work1 ≡ work)
     × (((n : ℕ) → said ≡ gives n → PosixWritten t k s out out1 n)
-    × ((n : ℕ) → said ≡ gives n → Unbeaten t k s out out1))))
+    × (((n : ℕ) → said ≡ gives n → Unbeaten t k s out out1)
+    × (Setting t k s (length work) → NoneOutranks (λ x. said ≡ x) t k s out out1)))))
 
 refuses-gives : {x : Said} {n d m : ℕ} → x ≡ refuses n d → x ≡ gives m → ⊥
 refuses-gives e f = let z : _≡_ {A = ℕ} 0 1 = cc in omega arith
@@ -58,16 +61,21 @@ refused :
     → (keepsWork (refuses n d) ≡ true → work1 ≡ work)
     → Outcome t k s work out work1 out said
 unfolding readLeaves
-refused t k s work out work1 e f kept = (
-  e ∙ sym f,
-  (
-    sym (ap (λ (x : Said). after x (bytesOf (parse (expOf t k) s) (λ v. encode v)) out) f),
-    (
-      (λ g. kept (ap keepsWork (sym f) ∙ g)),
-      ((λ n g. absurd (refuses-gives e g)), (λ n g. absurd (refuses-gives e g))),
-    ),
-  ),
-)
+refused t k s work out work1 e f kept =
+    let left : out ≡ readLeaves t k s (length work) out =
+    sym (ap (λ (x : Said). after x (bytesOf (parse (expOf t k) s) (λ v. encode v)) out) f) in (
+      e ∙ sym f,
+      (
+        left,
+        (
+          (λ g. kept (ap keepsWork (sym f) ∙ g)),
+          (
+            (λ n g. absurd (refuses-gives e g)),
+            ((λ n g. absurd (refuses-gives e g)), outranks t k s (length work) out (e ∙ sym f) left),
+          ),
+        ),
+      ),
+    )
 
 -- 1 to 6, and 9
 pub outcome-table :
@@ -224,7 +232,13 @@ module _ {t : List ℕ} {k : ℕ} (a : Admitted t k) where
                       w .buffer v p ∙ sym (leaves v p says-room),
                       (
                         (λ g. absurd (room-keeps (ltb (length out) (length (encode v))) (length (encode v)) (records v) (ap keepsWork (sym says-room) ∙ g))),
-                        ((λ n g. posix-written w p g), (λ n g. unbeaten w p g)),
+                        (
+                          (λ n g. posix-written w p g),
+                          (
+                            (λ n g. unbeaten w p g),
+                            outranks t k s (length work) out (w .answer v p ∙ sym says-room) (w .buffer v p ∙ sym (leaves v p says-room)),
+                          ),
+                        ),
                       ),
                     ),
                   )

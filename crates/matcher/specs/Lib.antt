@@ -1,3 +1,6 @@
--- Read's definitions: what the call says and leaves, and what the functions behind it are given and leave.
+-- Read's definitions.
+-- What the calls' contracts and the promises cite, in the order in which they are read.
 pub mod Calls
+pub mod Demands
+-- What only the functions and proofs inside go by.
 pub mod Walks

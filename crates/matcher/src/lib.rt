@@ -12,6 +12,7 @@ ghost use Rattle.table.specs.Answers.{says, gives};
 ghost use Rattle.area.specs.Area.{areaSize};
 ghost use Rattle.reading.specs.Codec.{encode, encodeItems};
 ghost use Rattle.matcher.specs.Calls.{readSays, readLeaves, keepsWork, PosixWritten, Unbeaten};
+ghost use Rattle.matcher.specs.Demands.{Setting, NoneOutranks};
 ghost use Rattle.matcher.specs.Walks.{Here, Room, Stored, Searched, LongestCut, Given, Walked, Counted, Answered};
 use table::Answer;
 use table::Refusal;
@@ -283,6 +284,9 @@ pub fn read(table: &[u8], start: usize, line: &[u8], work: &mut [u8], out: &mut 
     ensures unbeaten { λ r.
         ⌜ ((n : ℕ) → says r ≡ gives n
         → Unbeaten (now (table .entry)) start (now (line .entry)) (now (out .entry)) (now (out .exit))) ⌝ }
+    ensures rivals { λ r.
+        ⌜ (Setting (now (table .entry)) start (now (line .entry)) (length (now (work .entry)))
+        → NoneOutranks (λ x. says r ≡ x) (now (table .entry)) start (now (line .entry)) (now (out .entry)) (now (out .exit))) ⌝ }
 {
     let admitted = reading::admit(table, start);
     if let Answer::Refused(why) = admitted {

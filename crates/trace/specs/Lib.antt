@@ -1,3 +1,3 @@
--- What the calls for C give, and what the demands say in the words of the calls' definitions.
+-- What the calls for C give.
+-- What the calls' contracts and the promises cite, in the order in which they are read.
 pub mod Numbers
-pub mod Demands

@@ -1,7 +1,7 @@
 -- No rival outranks the reading that Read writes, and none exists where it says that there is none (demand 3).
 -- Assumes nothing.
 use Prim.Native.Nat.{ℕ, _*_, _≤_, _<_}
-use mathlib.Core.Path.{_≡_, refl, sym, _∙_, ap}
+use mathlib.Core.Path.{_≡_, refl, sym, _∙_, ap, subst}
 use mathlib.Core.Bool.{Bool, true, false}
 use mathlib.Core.List.{List, _++_}
 use mathlib.Core.Logic.{_↔_, _⊎_, inl, inr, ⊎-elim}
@@ -29,22 +29,11 @@ use Rattle.reading.specs.Fitting.{Fits, spelled}
 use Rattle.reading.specs.Calls.{ifStart, ifRoom, after, bytesOf}
 use Rattle.reading.proofs.Lengths.{encode-length, spelled-fits}
 use Rattle.ranking.specs.Answers.{compareSays}
-use Rattle.ranking.proofs.Precedence.{compare-first, compare-second, compare-same}
+use Rattle.ranking.specs.OneLine.{OneLine}
+use Rattle.ranking.proofs.CompareRanks.{compared}
 use Rattle.matcher.specs.Calls.{workSize, readParsed, readSays, readLeaves}
-use Rattle.trace.specs.Demands.{Bytes, Rival, Best, Setting, ReadsBest, Precedence}
-use Rattle.trace.proofs.ByteLists.{encode-bytes}
-
--- Compare's answer on two fitting byte sequences that spell one line of at most 255 bytes
-pub compared :
-    (t : List ℕ) (k : ℕ) (bs cs : List ℕ) → Passes t → k < count t → (f : Fits t k bs) (g : Fits t k cs) → spelled bs ≡ spelled cs
-    → length (spelled bs) ≤ 255
-    → Precedence t k bs cs f g
-compared t k bs cs p l f g one short =
-    record {
-      first-ahead = compare-first t k p l f g one short;
-      second-ahead = compare-second t k p l f g one short;
-      same-bytes = compare-same t k p l f g one short;
-    }
+use Rattle.matcher.specs.Demands.{Bytes, Rival, Best, Setting, ReadsBest, NoneOutranks}
+use Rattle.matcher.proofs.ByteLists.{encode-bytes}
 
 module _ (t : List ℕ) (k : ℕ) (s : List ℕ) (work : ℕ) (h : Setting t k s work) where
   -- in the setting only 8, 11 and a reading are left
@@ -68,25 +57,32 @@ module _ (t : List ℕ) (k : ℕ) (s : List ℕ) (work : ℕ) (h : Setting t k s
     lines : (bs : List ℕ) (r : Rival t k s bs) → flat (r .fits .value) ≡ s
     lines bs r = sym (spelled-fits (r .fits)) ∙ r .spells
 
-    -- and ranks ahead of every other
+    -- two rivals, as Compare is lent them
+    both : {bs cs : List ℕ} → Rival t k s bs → Rival t k s cs → OneLine t k bs cs
+    both b c =
+        record {
+          passes = h .passes;
+          inside = h .inside;
+          first = b .fits;
+          second = c .fits;
+          same-line = b .spells ∙ sym (c .spells);
+          short = rw (b .spells) (h .short);
+        }
+
+    -- it ranks ahead of every other
     own-best : Best t k s (encode v)
-    unfolding own
+    unfolding own both
     own-best = record { rival = own; ahead = ahead }
       where
         ahead : (cs : List ℕ) → Rival t k s cs → ¬ (cs ≡ encode v) → (compareSays t k (encode v) cs ≡ gives 1) × (compareSays t k cs (encode v) ≡ gives 2)
         ahead cs r n =
             let a : Ahead v (r .fits .value) =
             posix-best p (r .fits .reads) (lines cs r) (λ e. n (r .fits .encoded ∙ ap encode e)) in
-            let one : spelled (encode v) ≡ spelled cs = own .spells ∙ sym (r .spells) in
-            let short : length (spelled (encode v)) ≤ 255 = rw (own .spells) (h .short) in
-            let short′ : length (spelled cs) ≤ 255 = rw (r .spells) (h .short) in (
-              compare-first t k (h .passes) (h .inside) (own .fits) (r .fits) one short .1 a,
-              compare-second t k (h .passes) (h .inside) (r .fits) (own .fits) (sym one) short′ .1 a,
-            )
+            (compared (both own r) .first-ahead .1 a, compared (both r own) .second-ahead .1 a)
 
     -- no other does
     own-only : (bs : List ℕ) → Best t k s bs → bs ≡ encode v
-    unfolding own
+    unfolding own both
     own-only bs b =
         ⊎-elim (λ (e : b .rival .fits .value ≡ v). b .rival .fits .encoded ∙ ap encode e) behind
         (posix-ahead p (b .rival .fits .reads) (lines bs (b .rival)))
@@ -94,17 +90,17 @@ module _ (t : List ℕ) (k : ℕ) (s : List ℕ) (work : ℕ) (h : Setting t k s
         behind : Ahead v (b .rival .fits .value) → bs ≡ encode v
         behind a =
             let n : ¬ (bs ≡ encode v) =
-            λ e. let z : compareSays t k bs (encode v) ≡ gives 0 =
-            compare-same t k (h .passes) (h .inside) (b .rival .fits) (own .fits) (b .rival .spells ∙ sym (own .spells)) (rw (b .rival .spells) (h .short)) .1 e in
-            let y : compareSays t k bs (encode v) ≡ gives 2 =
-            compare-second t k (h .passes) (h .inside) (b .rival .fits) (own .fits) (b .rival .spells ∙ sym (own .spells)) (rw (b .rival .spells) (h .short)) .1 a in
+            λ e. let z : compareSays t k bs (encode v) ≡ gives 0 = compared (both (b .rival) own) .same-bytes .1 e in
+            let y : compareSays t k bs (encode v) ≡ gives 2 = compared (both (b .rival) own) .second-ahead .1 a in
             let x : gives 0 ≡ gives 2 = sym z ∙ y in let w : _≡_ {A = ℕ} 0 2 = cc in omega arith in
             let x : compareSays t k (encode v) bs ≡ gives 1 = own-best .ahead bs (b .rival) n .0 in
             let y : compareSays t k (encode v) bs ≡ gives 2 = b .ahead (encode v) own (λ e. n (sym e)) .1 in
             let z : gives 1 ≡ gives 2 = sym x ∙ y in let w : _≡_ {A = ℕ} 1 2 = cc in absurd (omega arith)
 
     -- Read with a buffer, where parse finds the reading
-    own-read : (out : List ℕ) → parse (expOf t k) s ≡ found v → ReadsBest t k s work out
+    own-read :
+        (out : List ℕ) → parse (expOf t k) s ≡ found v
+        → ReadsBest (λ x. readSays t k s work (length out) ≡ x) t k s out (readLeaves t k s work out)
     unfolding readLeaves
     own-read out e =
         record {
@@ -136,7 +132,7 @@ module _ (t : List ℕ) (k : ℕ) (s : List ℕ) (work : ℕ) (h : Setting t k s
                 absurd (omega arith)
 
   -- Read gives 8 exactly when no byte sequence fits and spells the line
-  pub none-fits : (room : ℕ) → (readSays t k s work room ≡ refuses 8 0) ↔ ((bs : List ℕ) → ¬ (Rival t k s bs))
+  none-fits : (room : ℕ) → (readSays t k s work room ≡ refuses 8 0) ↔ ((bs : List ℕ) → ¬ (Rival t k s bs))
   unfolding own
   none-fits room = (forth (parse (expOf t k) s) refl, back (parse (expOf t k) s) refl)
     where
@@ -165,9 +161,28 @@ module _ (t : List ℕ) (k : ℕ) (s : List ℕ) (work : ℕ) (h : Setting t k s
       back (found v) e f = absurd (f (encode v) (own v (parse-sound (expOf t k) s v e)))
 
   -- otherwise one byte sequence is best, and Read says 11 or writes it
-  pub best-read : (out : List ℕ) → ¬ (readSays t k s work (length out) ≡ refuses 8 0) → ReadsBest t k s work out
+  best-read :
+      (out : List ℕ) → ¬ (readSays t k s work (length out) ≡ refuses 8 0)
+      → ReadsBest (λ x. readSays t k s work (length out) ≡ x) t k s out (readLeaves t k s work out)
   best-read out n = go (parse (expOf t k) s) refl
     where
-      go : (x : Parsed) → parse (expOf t k) s ≡ x → ReadsBest t k s work out
+      go : (x : Parsed) → parse (expOf t k) s ≡ x → ReadsBest (λ x. readSays t k s work (length out) ≡ x) t k s out (readLeaves t k s work out)
       go missing e = absurd (n (settled (length out) ∙ ap (λ (x : Parsed). readParsed x (length out)) e))
       go (found v) e = own-read v (parse-sound (expOf t k) s v e) out e
+
+-- demand 3, of what Read says and leaves
+pub read-outranks :
+    (t : List ℕ) (k : ℕ) (s : List ℕ) (work : ℕ) → Setting t k s work
+    → (out : List ℕ)
+    → NoneOutranks (λ x. readSays t k s work (length out) ≡ x) t k s out (readLeaves t k s work out)
+read-outranks t k s work h out = record { none = none-fits t k s work h (length out); otherwise = best-read t k s work h out }
+
+-- and of an answer and a buffer that are these
+pub outranks :
+    (t : List ℕ) (k : ℕ) (s : List ℕ) (work : ℕ) (out : List ℕ) {said : Said} {final : List ℕ} → said ≡ readSays t k s work (length out)
+    → final ≡ readLeaves t k s work out
+    → Setting t k s work
+    → NoneOutranks (λ x. said ≡ x) t k s out final
+outranks t k s work out {said} {final} e f h =
+    subst (λ (y : Said). NoneOutranks (λ x. y ≡ x) t k s out final) (sym e)
+    (subst (λ (o : List ℕ). NoneOutranks (λ x. readSays t k s work (length out) ≡ x) t k s out o) (sym f) (read-outranks t k s work h out))

@@ -1,17 +1,16 @@
--- The three demands, over the definitions that the calls' contracts cite.
+-- Demand 3 of Read: no byte sequence that fits the start record and spells the line outranks what it writes.
 -- Assumes nothing.
 use Prim.Native.Nat.{ℕ, _*_, _≤_, _<_}
 use mathlib.Core.Path.{_≡_}
 use mathlib.Core.List.{List, _++_}
 use mathlib.Core.Logic.{_↔_}
 use lib.ListN.{length, getD, drop}
-use Rattle.regex.specs.Precedence.{Ahead}
 use Rattle.table.specs.Records.{count}
 use Rattle.table.specs.Faults.{Passes}
 use Rattle.table.specs.Answers.{Said, gives, refuses}
 use Rattle.reading.specs.Fitting.{Fits, spelled}
 use Rattle.ranking.specs.Answers.{compareSays}
-use Rattle.matcher.specs.Calls.{workSize, readSays, readLeaves}
+use Rattle.matcher.specs.Calls.{workSize}
 
 -- a byte sequence
 abbrev pub Bytes : List ℕ → Type 0
@@ -37,20 +36,19 @@ pub record Setting (t : List ℕ) (k : ℕ) (s : List ℕ) (work : ℕ) : Type 0
   pub enough : workSize (count t) (length s) ≤ work
 
 -- what Read does where a byte sequence fits and spells the line: there is one best one; 11 exactly when the buffer is shorter than it, with
--- the bytes needed; otherwise it is written, the later bytes are left, and its record count is returned
-pub record ReadsBest (t : List ℕ) (k : ℕ) (s : List ℕ) (work : ℕ) (out : List ℕ) : Type 0 where
+-- the bytes needed; otherwise it is written, the later bytes are left, and its record count is returned. `answered x` says that the answer is
+-- x; out is the buffer before and final the buffer afterwards.
+pub record ReadsBest (answered : Said → Type 0) (t : List ℕ) (k : ℕ) (s out final : List ℕ) : Type 0 where
   pub reading : List ℕ
   pub best : Best t k s reading
   pub only : (bs : List ℕ) → Best t k s bs → bs ≡ reading
-  pub too-short : (d : ℕ) → (readSays t k s work (length out) ≡ refuses 11 d) ↔ ((length out < length reading) × (d ≡ length reading))
+  pub too-short : (d : ℕ) → answered (refuses 11 d) ↔ ((length out < length reading) × (d ≡ length reading))
   pub records : ℕ
   pub two-bytes-each : length reading ≡ 2 * records
-  pub written :
-      length reading ≤ length out
-      → (readSays t k s work (length out) ≡ gives records) × (readLeaves t k s work out ≡ reading ++ drop (length reading) out)
+  pub written : length reading ≤ length out → answered (gives records) × (final ≡ reading ++ drop (length reading) out)
 
--- Compare's answer is the precedence of the readings, and 0 just where the bytes are the same
-pub record Precedence (t : List ℕ) (k : ℕ) (bs cs : List ℕ) (f : Fits t k bs) (g : Fits t k cs) : Type 0 where
-  pub first-ahead : (compareSays t k bs cs ≡ gives 1) ↔ Ahead (f .value) (g .value)
-  pub second-ahead : (compareSays t k bs cs ≡ gives 2) ↔ Ahead (g .value) (f .value)
-  pub same-bytes : (compareSays t k bs cs ≡ gives 0) ↔ (bs ≡ cs)
+-- demand 3 of Read's answer and of the buffer's bytes: 8 exactly when no byte sequence fits the start record and spells the line, otherwise
+-- the best one
+pub record NoneOutranks (answered : Said → Type 0) (t : List ℕ) (k : ℕ) (s out final : List ℕ) : Type 0 where
+  pub none : answered (refuses 8 0) ↔ ((bs : List ℕ) → ¬ (Rival t k s bs))
+  pub otherwise : ¬ (answered (refuses 8 0)) → ReadsBest answered t k s out final

@@ -12,7 +12,7 @@ use Rattle.regex.specs.Values.{Val, flat, Reads, reads-void, reads-byte, reads-
 use Rattle.regex.proofs.Lists.{length-pos}
 use Rattle.reading.specs.Codec.{iterations, encode, encodeItems}
 use Rattle.reading.proofs.Codec.{encode-star}
-use Rattle.trace.specs.Demands.{Bytes}
+use Rattle.matcher.specs.Demands.{Bytes}
 
 bytes-nil : Bytes []
 bytes-nil i h = absurd (omega arith)
