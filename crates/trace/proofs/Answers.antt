@@ -1,14 +1,13 @@
 -- What the calls that write do where they answer and where they refuse (demands 1 and 2).
 -- Assumes nothing.
-use Prim.Native.Nat.{ℕ, _≤_}
+use Prim.Native.Nat.{ℕ}
 use mathlib.Core.Path.{_≡_, refl, sym, _∙_, ap}
 use mathlib.Core.Bool.{Bool, true, false, not}
-use mathlib.Core.List.{List, _++_}
+use mathlib.Core.List.{List}
 use native.Mathlib.Omega.{arith}
 use lib.Dec.{ltb}
-use lib.ListN.{length, drop}
-use Rattle.regex.specs.Values.{Val, flat, records}
-use Rattle.regex.specs.Relation.{Posix}
+use lib.ListN.{length}
+use Rattle.regex.specs.Values.{records}
 use Rattle.regex.specs.Decision.{Parsed, found, missing, parse}
 use Rattle.regex.proofs.Parse.{parse-sound}
 use Rattle.table.specs.Records.{count}
@@ -18,7 +17,7 @@ use Rattle.table.specs.Checked.{orElse, checked}
 use Rattle.reading.specs.Codec.{encode}
 use Rattle.reading.specs.Calls.{ifPassed, ifStart, ifRoom, after, bytesOf, spellSays, spellLeaves}
 use Rattle.tokens.specs.Listed.{tokensSays, tokensLeaves}
-use Rattle.matcher.specs.Calls.{workSize, readParsed, readSays, readLeaves}
+use Rattle.matcher.specs.Calls.{workSize, readParsed, readSays, readLeaves, PosixWritten}
 
 -- a refusal leaves the buffer as it was
 after-refusal : (said : Said) (n d : ℕ) (bytes out : List ℕ) → said ≡ refuses n d → after said bytes out ≡ out
@@ -36,13 +35,6 @@ pub read-refused : (t : List ℕ) (k : ℕ) (s : List ℕ) (work : ℕ) (out : L
 unfolding readLeaves
 read-refused t k s work out n d e = after-refusal (readSays t k s work (length out)) n d _ out e
 
--- the reading that Read wrote
-pub record Written (t : List ℕ) (k : ℕ) (s : List ℕ) (work : ℕ) (out : List ℕ) (n : ℕ) : Type 0 where
-  pub value : Val
-  pub posix : Posix s (expOf t k) value
-  pub counted : n ≡ records value
-  pub front : readLeaves t k s work out ≡ encode value ++ drop (length (encode value)) out
-
 -- what comes behind a test that is not true, where the whole gives a result
 gives-or : (b : Bool) (n d : ℕ) (said : Said) (m : ℕ) → orElse b (refuses n d) said ≡ gives m → said ≡ gives m
 gives-or true n d said m e = let z : _≡_ {A = ℕ} 0 1 = cc in absurd (omega arith)
@@ -53,7 +45,7 @@ gives-passed (gives c) said m e = e
 gives-passed (refuses n d) said m e = let z : _≡_ {A = ℕ} 0 1 = cc in absurd (omega arith)
 
 -- where Read gives a result, it wrote the reading that the relation gives the line
-pub read-writes : (t : List ℕ) (k : ℕ) (s : List ℕ) (work : ℕ) (out : List ℕ) (n : ℕ) → readSays t k s work (length out) ≡ gives n → Written t k s work out n
+pub read-writes : (t : List ℕ) (k : ℕ) (s : List ℕ) (work : ℕ) (out : List ℕ) (n : ℕ) → readSays t k s work (length out) ≡ gives n → PosixWritten t k s out (readLeaves t k s work out) n
 unfolding readSays readLeaves
 read-writes t k s work out n e = go (parse (expOf t k) s) refl
   where
@@ -62,7 +54,7 @@ read-writes t k s work out n e = go (parse (expOf t k) s) refl
         gives-or (ltb work (workSize (count t) (length s))) 10 0 _ n
         (gives-or (ltb 255 (length s)) 7 0 _ n (gives-or (not (ltb k (count t))) 9 0 _ n (gives-passed (checked t) _ n e)))
 
-    go : (x : Parsed) → parse (expOf t k) s ≡ x → Written t k s work out n
+    go : (x : Parsed) → parse (expOf t k) s ≡ x → PosixWritten t k s out (readLeaves t k s work out) n
     go missing f =
         let z : refuses 8 0 ≡ gives n = sym (ap (λ (y : Parsed). readParsed y (length out)) f) ∙ read in
         let y : _≡_ {A = ℕ} 0 1 = cc in
@@ -70,4 +62,4 @@ read-writes t k s work out n e = go (parse (expOf t k) s) refl
     go (found v) f =
         let z : ifRoom (length out) (encode v) (records v) ≡ gives n = sym (ap (λ (y : Parsed). readParsed y (length out)) f) ∙ read in
         let y : gives (records v) ≡ gives n = gives-or (ltb (length out) (length (encode v))) 11 (length (encode v)) _ n z in
-        record { value = v; posix = parse-sound (expOf t k) s v f; counted = cc; front = rw (e, f) }
+        record { value = v; posix = parse-sound (expOf t k) s v f; counted = cc; written = rw (e, f) }

@@ -1,7 +1,6 @@
 -- The calls for C, and the demands.
-mod Numbers
+pub mod Numbers
+pub mod Numbered
 pub mod Bounds
-pub mod ByteLists
-pub mod Rivals
 pub mod Answers
 pub mod Promises

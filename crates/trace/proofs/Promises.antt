@@ -1,6 +1,7 @@
 -- The page of promises: the three demands over the definitions that the calls' contracts cite, each proved by one citation. The contracts of
 -- table::check, matcher::read, reading::spell, tokens::tokens, ranking::compare and ranking::earlier say that the calls answer and leave what
--- these definitions say, for every input: none of them has a `requires`, and each is proved to end.
+-- these definitions say, for every input: none of them has a `requires`, and each is proved to end. The clause rivals of matcher::read and the
+-- clause precedence of ranking::compare say demand 3 of the answer and the buffer themselves, and those of the calls for C of the number.
 -- Assumes nothing.
 use Prim.Native.Nat.{ℕ, _*_, _≤_, _<_}
 use mathlib.Core.Path.{_≡_}
@@ -10,23 +11,28 @@ use lib.ListN.{length, drop}
 use Rattle.regex.specs.Values.{Val, flat}
 use Rattle.table.specs.Records.{count}
 use Rattle.table.specs.Faults.{Passes}
-use Rattle.table.specs.Answers.{Said, gives, refuses}
+use Rattle.table.specs.Answers.{Said, gives, refuses, number}
 use Rattle.table.specs.Checked.{checked}
 use Rattle.table.proofs.Checking.{check-passes, check-gives}
-use Rattle.reading.specs.Fitting.{Fits, spelled}
+use Rattle.reading.specs.Fitting.{Fits}
 use Rattle.reading.specs.Calls.{spellSays, spellLeaves}
 use Rattle.reading.proofs.Spelling.{spell-writes}
+use Rattle.reading.proofs.Misfits.{spell-misfits}
 use Rattle.tokens.specs.Tokens.{tokensFrom, tokenBytes, taggedParts, textAt, textOf}
 use Rattle.tokens.specs.Listed.{tokensSays, tokensLeaves}
 use Rattle.tokens.proofs.Text.{tokens-text}
-use Rattle.tokens.proofs.Calls.{tokens-writes}
+use Rattle.tokens.proofs.Calls.{tokens-writes, tokens-misfits}
 use Rattle.ranking.specs.Answers.{compareSays}
-use Rattle.matcher.specs.Calls.{readSays, readLeaves}
+use Rattle.ranking.specs.OneLine.{OneLine, AnswersPrecedence}
+use Rattle.ranking.proofs.CompareRanks.{compared}
+use Rattle.ranking.proofs.Misfits.{misfits-first, misfits-second}
+use Rattle.matcher.specs.Calls.{readSays, readLeaves, PosixWritten}
+use Rattle.matcher.specs.Demands.{Setting, NoneOutranks}
+use Rattle.matcher.proofs.Rivals.{read-outranks}
 use Rattle.trace.specs.Numbers.{Small}
-use Rattle.trace.specs.Demands.{Rival, Setting, ReadsBest, Precedence}
-use Rattle.trace.proofs.Answers.{Written, read-writes, read-refused, spell-refused, tokens-refused}
+use Rattle.trace.proofs.Answers.{read-writes, read-refused, spell-refused, tokens-refused}
 use Rattle.trace.proofs.Bounds.{small-checked, small-read, small-spell, small-compare, small-tokens}
-use Rattle.trace.proofs.Rivals.{compared, none-fits, best-read}
+use Rattle.trace.proofs.Numbers.{same-number}
 
 -- Demand 1: each call gives a result or one of document 01's refusals, for every table, start number, line, reading and length
 pub check-answers : (t : List ℕ) → Small (checked t)
@@ -44,6 +50,10 @@ tokens-answers = small-tokens
 pub compare-answers : (t : List ℕ) (k : ℕ) (bs cs : List ℕ) → Small (compareSays t k bs cs)
 compare-answers = small-compare
 
+-- Demand 1: and no two of these answers have one number for C
+pub number-unique : (x y : Said) → Small x → Small y → number x ≡ number y → x ≡ y
+number-unique = same-number
+
 -- Demand 1: a refusal changes no output buffer
 pub read-keeps : (t : List ℕ) (k : ℕ) (s : List ℕ) (work : ℕ) (out : List ℕ) (n d : ℕ) → readSays t k s work (length out) ≡ refuses n d → readLeaves t k s work out ≡ out
 read-keeps = read-refused
@@ -55,7 +65,7 @@ pub tokens-keeps : (t : List ℕ) (k : ℕ) (bs out : List ℕ) (n d : ℕ) → 
 tokens-keeps = tokens-refused
 
 -- Demand 2: Read writes the reading that the relation gives the line, and nothing else
-pub read-right : (t : List ℕ) (k : ℕ) (s : List ℕ) (work : ℕ) (out : List ℕ) (n : ℕ) → readSays t k s work (length out) ≡ gives n → Written t k s work out n
+pub read-right : (t : List ℕ) (k : ℕ) (s : List ℕ) (work : ℕ) (out : List ℕ) (n : ℕ) → readSays t k s work (length out) ≡ gives n → PosixWritten t k s out (readLeaves t k s work out) n
 read-right = read-writes
 
 -- Demand 2: for a fitting reading of at most 255 line bytes and a buffer that holds the answer, Spell returns just the line it flattens to
@@ -79,6 +89,15 @@ tokens-right = tokens-writes
 pub tokens-placed : (t : List ℕ) (k : ℕ) (v : Val) → map (textAt (flat v)) (tokensFrom t k v 0) ≡ map textOf (taggedParts t k v)
 tokens-placed = tokens-text
 
+-- Demand 2: Spell and Tokens give 12 exactly when the bytes do not fit the start record
+pub spell-unfit :
+    (t : List ℕ) (k : ℕ) (bs : List ℕ) (room : ℕ) → Passes t → k < count t → (spellSays t k bs room ≡ refuses 12 0) ↔ ¬ (Fits t k bs)
+spell-unfit = spell-misfits
+
+pub tokens-unfit :
+    (t : List ℕ) (k : ℕ) (bs : List ℕ) (room : ℕ) → Passes t → k < count t → (tokensSays t k bs room ≡ refuses 12 0) ↔ ¬ (Fits t k bs)
+tokens-unfit = tokens-misfits
+
 -- Demand 3: Check passes exactly the tables free of refusals 1 to 6
 pub check-passed : (t : List ℕ) → Passes t → checked t ≡ gives (count t)
 check-passed = check-passes
@@ -86,25 +105,27 @@ check-passed = check-passes
 pub check-free : (t : List ℕ) (m : ℕ) → checked t ≡ gives m → Passes t × (m ≡ count t)
 check-free = check-gives
 
--- Demand 3: Read gives 8 exactly when no byte sequence fits the start record and spells the line
-pub read-none :
-    (t : List ℕ) (k : ℕ) (s : List ℕ) (work : ℕ) → Setting t k s work
-    → (room : ℕ)
-    → (readSays t k s work room ≡ refuses 8 0) ↔ ((bs : List ℕ) → ¬ (Rival t k s bs))
-read-none = none-fits
-
--- Demand 3: otherwise one byte sequence does both and Compare ranks it ahead of every other that does; Read gives 11 exactly when the buffer is
--- shorter than that one, else writes that one and returns its record count
-pub read-best :
+-- Demand 3: Read gives 8 exactly when no byte sequence fits the start record and spells the line; otherwise one byte sequence does both and
+-- Compare ranks it ahead of every other that does, and Read gives 11 exactly when the buffer is shorter than that one, else writes that one and
+-- returns its record count
+pub read-rivals :
     (t : List ℕ) (k : ℕ) (s : List ℕ) (work : ℕ) → Setting t k s work
     → (out : List ℕ)
-    → ¬ (readSays t k s work (length out) ≡ refuses 8 0)
-    → ReadsBest t k s work out
-read-best = best-read
+    → NoneOutranks (λ x. readSays t k s work (length out) ≡ x) t k s out (readLeaves t k s work out)
+read-rivals = read-outranks
 
 -- Demand 3: for any two byte sequences that fit and spell one such line, Compare's answer is document 01's precedence
 pub compare-right :
-    (t : List ℕ) (k : ℕ) (bs cs : List ℕ) → Passes t → k < count t → (f : Fits t k bs) (g : Fits t k cs) → spelled bs ≡ spelled cs
-    → length (spelled bs) ≤ 255
-    → Precedence t k bs cs f g
+    {t : List ℕ} {k : ℕ} {bs cs : List ℕ} (o : OneLine t k bs cs)
+    → AnswersPrecedence (λ x. compareSays t k bs cs ≡ x) bs cs (o .first .value) (o .second .value)
 compare-right = compared
+
+-- Demand 3: and it gives 12 exactly when one of the two does not fit, with detail 0 for the first and 1 for the second
+pub compare-unfit-first :
+    (t : List ℕ) (k : ℕ) (bs cs : List ℕ) → Passes t → k < count t → (compareSays t k bs cs ≡ refuses 12 0) ↔ ¬ (Fits t k bs)
+compare-unfit-first = misfits-first
+
+pub compare-unfit-second :
+    (t : List ℕ) (k : ℕ) (bs cs : List ℕ) → Passes t → k < count t
+    → (compareSays t k bs cs ≡ refuses 12 1) ↔ (Fits t k bs × ¬ (Fits t k cs))
+compare-unfit-second = misfits-second

@@ -7,8 +7,10 @@ ghost use mathlib.Core.Bool.{true};
 ghost use lib.ListN.{length};
 ghost use Rattle.reading.specs.Calls.{spellSays, spellLeaves};
 ghost use Rattle.ranking.specs.Answers.{compareSays};
+ghost use Rattle.ranking.specs.OneLine.{OneLine, AnswersPrecedence};
 ghost use Rattle.tokens.specs.Listed.{tokensSays, tokensLeaves};
 ghost use Rattle.matcher.specs.Calls.{readSays, readLeaves, keepsWork};
+ghost use Rattle.matcher.specs.Demands.{Setting, NoneOutranks};
 ghost use Rattle.trace.specs.Numbers.{Small};
 use table::Answer;
 
@@ -52,6 +54,8 @@ pub extern "C" fn trace_read(
         (readSays (now (table .entry)) start (now (line .entry)) (length (now (work .entry))) (length (now (out .entry))))
         ≡ true
         → now (work .exit) ≡ now (work .entry)) ⌝ }
+    ensures rivals { λ r. ⌜ (Setting (now (table .entry)) start (now (line .entry)) (length (now (work .entry)))
+        → NoneOutranks (λ x. r ≡ number x) (now (table .entry)) start (now (line .entry)) (now (out .entry)) (now (out .exit))) ⌝ }
 {
     number_of(matcher::read(table, start as usize, line, work, out))
 }
@@ -69,6 +73,8 @@ pub extern "C" fn trace_spell(table: &[u8], start: u64, reading: &[u8], out: &mu
 #[no_mangle]
 pub extern "C" fn trace_compare(table: &[u8], start: u64, first: &[u8], second: &[u8]) -> u64
     ensures answer { λ r. ⌜ r ≡ number (compareSays (now (table .entry)) start (now (first .entry)) (now (second .entry))) ⌝ }
+    ensures precedence { λ r. ⌜ ((o : OneLine (now (table .entry)) start (now (first .entry)) (now (second .entry)))
+        → AnswersPrecedence (λ x. r ≡ number x) (now (first .entry)) (now (second .entry)) (o .first .value) (o .second .value)) ⌝ }
 {
     number_of(ranking::compare(table, start as usize, first, second))
 }

@@ -3,6 +3,7 @@ use mathlib.Core.Path.{_∙_, ap}
 use borrow.Author.Needs.{needs}
 use Rattle.table.specs.Answers.{number}
 use Rattle.trace.proofs.Bounds.{small-read, said-small}
+use Rattle.trace.proofs.Numbered.{read-numbered}
 use Rattle.trace.proofs.trace_read.Statement.{statement}
 use Rattle.trace.proofs.trace_read.Tie as tie
 
@@ -23,7 +24,11 @@ returns c = (
   c .number-of .ensures ∙ ap number (c .before .before .before .before .before .read .ensures .0),
   (
     c .before .before .before .before .before .read .ensures .1 .0,
-    c .before .before .before .before .before .read .ensures .1 .1 .0,
+    (
+      c .before .before .before .before .before .read .ensures .1 .1 .0,
+      λ h. read-numbered (c .number-of .ensures) (said-small _ (c .before .before .before .before .before .read .ensures .0) (small-read _ _ _ _ _))
+          (c .before .before .before .before .before .read .ensures .1 .1 .1 .1 .1 h),
+    ),
   ),
 )
 
