@@ -1,12 +1,11 @@
 -- The encoding of a reading of at most 255 line bytes is a byte sequence.
 -- Assumes nothing.
 use Prim.Native.Nat.{ℕ, zero, suc, _+_, _≤_, _<_}
-use mathlib.Core.Path.{_≡_, refl, sym, _∙_, ap, subst}
+use mathlib.Core.Path.{subst}
 use mathlib.Core.List.{List, [], _∷_, _++_}
 use native.Mathlib.Nat.{le-of-suc-le-suc, suc-le-suc-iff}
 use native.Mathlib.Omega.{arith}
-use lib.ListN.{length, getD, length-append, List·getD-append}
-use lib.Seq.{getD-append-add}
+use lib.ListN.{length, length-append}
 use Rattle.regex.specs.Expressions.{Exp, star}
 use Rattle.regex.specs.Values.{Val, flat, Reads, reads-void, reads-byte, reads-left, reads-right, reads-pair, reads-none, reads-more}
 use Rattle.regex.proofs.Lists.{length-pos}

@@ -1,38 +1,35 @@
 -- No rival outranks the reading that Read writes, and none exists where it says that there is none (demand 3).
 -- Assumes nothing.
-use Prim.Native.Nat.{ℕ, _*_, _≤_, _<_}
+use Prim.Native.Nat.{ℕ, _≤_, _<_}
 use mathlib.Core.Path.{_≡_, refl, sym, _∙_, ap, subst}
 use mathlib.Core.Bool.{Bool, true, false}
-use mathlib.Core.List.{List, _++_}
-use mathlib.Core.Logic.{_↔_, _⊎_, inl, inr, ⊎-elim}
+use mathlib.Core.List.{List}
+use mathlib.Core.Logic.{_↔_, ⊎-elim}
 use native.Mathlib.Omega.{arith}
-use borrow.Author.Tests.{lt-ltb, le-ltb, ltb-true, ltb-false}
+use borrow.Author.Tests.{lt-ltb, le-ltb, ltb-true}
 use lib.Dec.{ltb}
-use lib.ListN.{length, drop}
-use Rattle.regex.specs.Values.{Val, flat, records, Reads}
+use lib.ListN.{length}
+use Rattle.regex.specs.Values.{Val, flat, records}
 use Rattle.regex.specs.Language.{L}
 use Rattle.regex.specs.Relation.{Posix}
 use Rattle.regex.specs.Precedence.{Ahead}
 use Rattle.regex.specs.Decision.{Parsed, found, missing, parse}
 use Rattle.regex.proofs.Flats.{posix-flat, posix-reads, reads-spelled}
-use Rattle.regex.proofs.Paths.{ahead-irreflexive}
 use Rattle.regex.proofs.Ahead.{posix-ahead, posix-best}
 use Rattle.regex.proofs.Parse.{parse-sound, parse-missing}
 use Rattle.table.specs.Records.{count}
-use Rattle.table.specs.Faults.{Passes}
 use Rattle.table.specs.Expression.{expOf}
 use Rattle.table.specs.Answers.{Said, gives, refuses}
-use Rattle.table.specs.Checked.{orElse, checked}
 use Rattle.table.proofs.Checking.{check-passes}
 use Rattle.reading.specs.Codec.{encode}
-use Rattle.reading.specs.Fitting.{Fits, spelled}
-use Rattle.reading.specs.Calls.{ifStart, ifRoom, after, bytesOf}
+use Rattle.reading.specs.Fitting.{Fits}
+use Rattle.reading.specs.Calls.{ifRoom}
 use Rattle.reading.proofs.Lengths.{encode-length, spelled-fits}
 use Rattle.ranking.specs.Answers.{compareSays}
 use Rattle.ranking.specs.OneLine.{OneLine}
 use Rattle.ranking.proofs.CompareRanks.{compared}
 use Rattle.matcher.specs.Calls.{workSize, readParsed, readSays, readLeaves}
-use Rattle.matcher.specs.Demands.{Bytes, Rival, Best, Setting, ReadsBest, NoneOutranks}
+use Rattle.matcher.specs.Demands.{Rival, Best, Setting, ReadsBest, NoneOutranks}
 use Rattle.matcher.proofs.ByteLists.{encode-bytes}
 
 module _ (t : List ℕ) (k : ℕ) (s : List ℕ) (work : ℕ) (h : Setting t k s work) where

@@ -14,7 +14,7 @@ use Rattle.regex.specs.Decision.{Parsed, found, missing}
 use Rattle.regex.specs.Ranking.{rank}
 use Rattle.table.specs.Records.{count}
 use Rattle.table.specs.Faults.{Passes}
-use Rattle.table.specs.Answers.{Said, gives, refuses}
+use Rattle.table.specs.Answers.{gives, refuses}
 use Rattle.table.specs.Checked.{orElse}
 use Rattle.reading.specs.Fitting.{Fits, readingOf}
 use Rattle.reading.proofs.Fitting.{found-fits, missing-unfit}

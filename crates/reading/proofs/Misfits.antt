@@ -12,7 +12,7 @@ use Rattle.regex.specs.Values.{Val, flat}
 use Rattle.regex.specs.Decision.{Parsed, found, missing}
 use Rattle.table.specs.Records.{count}
 use Rattle.table.specs.Faults.{Passes}
-use Rattle.table.specs.Answers.{Said, gives, refuses}
+use Rattle.table.specs.Answers.{gives, refuses}
 use Rattle.table.specs.Checked.{orElse}
 use Rattle.reading.specs.Fitting.{Fits, readingOf}
 use Rattle.reading.specs.Calls.{ifStart, ifFits, ifRoom, spellSays}

@@ -1,14 +1,14 @@
 -- The cases of document 01's bench follow from the definitions: one computation over the whole list, and what it means for each case.
 -- Assumes nothing.
 use Prim.Native.Nat.{ℕ}
-use mathlib.Core.Path.{_≡_, refl, ap}
+use mathlib.Core.Path.{_≡_, refl}
 use mathlib.Core.List.{List, [], _∷_, map, List·Memᴰ, List·Memᴰ·cases-cons, List·Memᴰ·not-nil}
 use mathlib.Core.Logic.{⊎-elim}
 use Rattle.regex.specs.Expressions.{Exp}
-use Rattle.regex.specs.Values.{Val, Reads, reads-void, reads-byte, reads-right, reads-pair}
+use Rattle.regex.specs.Values.{Reads, reads-void, reads-byte, reads-right, reads-pair}
 use Rattle.regex.specs.Decision.{Parsed, found, missing, parse}
-use Rattle.regex.specs.Ranking.{Verdict, rank}
-use Rattle.regex.specs.Bench.{Case, reads-as, ranks-as, Outcome, reading, verdict, computed, stated, cases, Meaning, T2, G-rival}
+use Rattle.regex.specs.Ranking.{rank}
+use Rattle.regex.specs.Bench.{Case, reads-as, ranks-as, computed, stated, cases, Meaning, T2, G-rival}
 use Rattle.regex.proofs.Parse.{parse-sound, parse-missing}
 use Rattle.regex.proofs.Ranks.{rank-view}
 

@@ -15,7 +15,7 @@ use Rattle.table.specs.Expression.{expOf}
 use Rattle.table.specs.Answers.{Said, gives, refuses}
 use Rattle.table.specs.Checked.{orElse, checked}
 use Rattle.reading.specs.Codec.{encode}
-use Rattle.reading.specs.Calls.{ifPassed, ifStart, ifRoom, after, bytesOf, spellSays, spellLeaves}
+use Rattle.reading.specs.Calls.{ifPassed, ifRoom, after, spellSays, spellLeaves}
 use Rattle.tokens.specs.Listed.{tokensSays, tokensLeaves}
 use Rattle.matcher.specs.Calls.{workSize, readParsed, readSays, readLeaves, PosixWritten}
 

@@ -11,7 +11,7 @@ use Rattle.trace.specs.Numbers.{Small}
 
 -- a refusal's number and detail are small where the answer is
 pub refusal-small :
-    (a : Answer) (why : Refusal) (n d : ℕ) → Small (says a) → a ≡ Refused why → refuses n d ≡ refusal why → (1 ≤ n) × (n ≤ 14) × (d < 4294967296)
+    (a : Answer) (why : Refusal) (n d : ℕ) → Small (says a) → a ≡ Refused why → refuses n d ≡ refusal why → Small (refuses n d)
 refusal-small a why n d s e f =
     subst (λ (x : Said). Small x) (sym f) (subst (λ (b : Answer). Small (says b)) e s)
 

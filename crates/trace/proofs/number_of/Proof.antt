@@ -1,7 +1,8 @@
 -- `number_of` meets its contract. Assumes nothing.
-use Prim.Native.Nat.{_≤_, _<_}
 use native.Mathlib.Omega.{arith}
 use borrow.Author.Needs.{needs}
+use Rattle.table.specs.Answers.{refuses}
+use Rattle.trace.specs.Numbers.{Small}
 use Rattle.trace.proofs.Numbers.{refusal-small, refusal-number}
 use Rattle.trace.proofs.number_of.Statement.{statement}
 use Rattle.trace.proofs.number_of.Tie as tie
@@ -15,9 +16,7 @@ enum-known-answer-2 c = search needs
 numbers-of-requires : tie.Need-numbers-of-requires
 numbers-of-requires c κs = search needs
 
-small :
-    (c : tie.After-numbers-of)
-    → (1 ≤ c .numbers-of .result .number) × (c .numbers-of .result .number ≤ 14) × (c .numbers-of .result .detail < 4294967296)
+small : (c : tie.After-numbers-of) → Small (refuses (c .numbers-of .result .number) (c .numbers-of .result .detail))
 small c =
     refusal-small _ _ _ _ (c .before .before .before .before .pre) (c .before .before .answer2 .given .1) (c .numbers-of .ensures)
 
