@@ -8,7 +8,7 @@ use mathlib.Core.Path.{_≡_, sym, _∙_, ap, subst}
 use mathlib.Core.Bool.{Bool, true, false, true≢false}
 use mathlib.Core.List.{List, _++_}
 use lib.ListN.{length, drop}
-use Rattle.regex.specs.Expressions.{nodes}
+use Rattle.regex.specs.Nodes.{nodes}
 use Rattle.regex.specs.Values.{Val, flat, records}
 use Rattle.regex.specs.Relation.{Posix}
 use Rattle.regex.proofs.Flats.{posix-flat, posix-reads}

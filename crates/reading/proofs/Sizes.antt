@@ -6,7 +6,7 @@ use mathlib.Core.List.{List}
 use native.Mathlib.Nat.{mul-le-mul-right}
 use native.Mathlib.Omega.{arith}
 use lib.ListN.{length}
-use Rattle.regex.specs.Expressions.{nodes}
+use Rattle.regex.specs.Nodes.{nodes}
 use Rattle.regex.specs.Values.{flat, records}
 use Rattle.regex.proofs.Count.{records-bound}
 use Rattle.table.specs.Records.{count}

@@ -4,7 +4,8 @@ use Prim.Native.Nat.{ℕ, suc, _+_, _*_, _≤_, max}
 use native.Mathlib.Nat.{suc-mul, add-mul, mul-add, mul-le-mul-left}
 use native.Mathlib.Omega.{arith}
 use lib.ListN.{length, length-append}
-use Rattle.regex.specs.Expressions.{Exp, empty, letter, or, seq, star, nodes}
+use Rattle.regex.specs.Expressions.{Exp, empty, letter, or, seq, star}
+use Rattle.regex.specs.Nodes.{nodes}
 use Rattle.regex.specs.Values.{Val, flat, records, Reads, reads-void, reads-byte, reads-left, reads-right, reads-pair, reads-none, reads-more}
 use Rattle.regex.proofs.Lists.{length-pos}
 

@@ -1,6 +1,6 @@
 -- Regular expressions over bytes: 001's, with a set of bytes for a letter (document 01, "The rule table", the column 'meaning').
 -- Assumes nothing.
-use Prim.Native.Nat.{ℕ, suc, _+_}
+use Prim.Native.Nat.{ℕ}
 use mathlib.Core.Bool.{Bool, _&&_}
 use lib.Dec.{leb}
 
@@ -20,12 +20,3 @@ pub data Exp : Type 0 where
   or : Exp → Exp → Exp
   seq : Exp → Exp → Exp
   star : Exp → Exp
-
--- how many expressions stand in r, r itself among them
-abbrev pub nodes : Exp → ℕ
-nodes nothing = 1
-nodes empty = 1
-nodes (letter b) = 1
-nodes (or r1 r2) = suc (nodes r1 + nodes r2)
-nodes (seq r1 r2) = suc (nodes r1 + nodes r2)
-nodes (star r) = suc (nodes r)

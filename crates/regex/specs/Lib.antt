@@ -9,5 +9,6 @@ pub mod Decision
 pub mod Ranking
 pub mod Bench
 -- What only the functions and proofs inside go by.
+pub mod Nodes
 pub mod Spells
 pub mod RankingParts

@@ -11,7 +11,8 @@ use mathlib.Core.Bool.{Bool, true, false, _||_, cond}
 use mathlib.Core.List.{List}
 use lib.Dec.{eqb}
 use borrow.Author.Tests.{eq-eqb}
-use Rattle.regex.specs.Expressions.{nothing, nodes}
+use Rattle.regex.specs.Expressions.{nothing}
+use Rattle.regex.specs.Nodes.{nodes}
 use Rattle.table.specs.Records.{count, kindAt, aAt, bAt}
 use Rattle.table.specs.Faults.{names, namedBelow, Passes}
 use Rattle.table.specs.Expression.{expOf}

@@ -6,7 +6,7 @@ use mathlib.Core.List.{List, [], _∷_}
 use native.Mathlib.Omega.{arith}
 use native.Mathlib.Nat.{mul-le-mul}
 use lib.ListN.{length, length-append}
-use Rattle.regex.specs.Expressions.{nodes}
+use Rattle.regex.specs.Nodes.{nodes}
 use Rattle.regex.specs.Values.{Val, void, byte, left, right, pair, none, more, flat, records, Reads}
 use Rattle.regex.proofs.Count.{records-bound}
 use Rattle.table.specs.Records.{count, aAt, bAt, tagAt}
