@@ -7,17 +7,17 @@ use native.Mathlib.Omega.{arith}
 use native.Mathlib.Nat.{eq-or-lt-of-le}
 use mathlib.Core.Path.{_≡_, refl, ap, _∙_}
 use mathlib.Core.Logic.{_⊎_, inl, inr, ⊎-elim}
-use mathlib.Core.Bool.{Bool, true, false, _||_, cond}
+use mathlib.Core.Bool.{Bool, true, false, _&&_, _||_, cond}
 use mathlib.Core.List.{List}
 use lib.Dec.{eqb}
 use borrow.Author.Tests.{eq-eqb}
 use Rattle.regex.specs.Expressions.{nothing}
 use Rattle.regex.specs.Nodes.{nodes}
 use Rattle.table.specs.Records.{count, kindAt, aAt, bAt}
-use Rattle.table.specs.Faults.{names, namedBelow, Passes}
+use Rattle.table.specs.Faults.{namesA, namesB, names, namedBelow, Passes}
 use Rattle.table.specs.Expression.{expOf}
 use Rattle.table.proofs.Laws.{exp-nothing, exp-empty, exp-letter, exp-or, exp-seq, exp-star}
-use Rattle.table.proofs.Passing.{kind-small, a-below, b-below, star-a-below, children-differ, fresh, or-true-left, or-true-right, by-two}
+use Rattle.table.proofs.Passing.{kind-small, a-below, b-below, star-a-below, children-differ, fresh, or-true-left, or-true-right, two-names, star-names}
 
 -- f 0 + .. + f (n - 1)
 sum : (ℕ → ℕ) → ℕ → ℕ
@@ -96,14 +96,11 @@ kinds (suc (suc (suc (suc (suc zero))))) l = inr (inr refl)
 kinds (suc (suc (suc (suc (suc (suc n)))))) l = absurd (omega arith)
 
 module _ (t : List ℕ) (p : Passes t) (k : ℕ) (l : k < count t) where
-  names-a : (kindAt t k ≡ 3) ⊎ (kindAt t k ≡ 4) → names t k (aAt t k) ≡ true
-  names-a e = by-two (kindAt t k) _ _ _ _ _ e ∙ or-true-left _ _ (eq-eqb (aAt t k) _ refl)
+  names-a : namesA t k ≡ true → names t k (aAt t k) ≡ true
+  names-a e = rw (e, eq-eqb (aAt t k) _ refl)
 
-  names-b : (kindAt t k ≡ 3) ⊎ (kindAt t k ≡ 4) → names t k (bAt t k) ≡ true
-  names-b e = by-two (kindAt t k) _ _ _ _ _ e ∙ or-true-right (eqb (aAt t k) (bAt t k)) _ (eq-eqb (bAt t k) _ refl)
-
-  star-names : kindAt t k ≡ 5 → names t k (aAt t k) ≡ true
-  star-names e = rw e (eq-eqb (aAt t k) _ refl)
+  names-b : namesB t k ≡ true → names t k (bAt t k) ≡ true
+  names-b e = or-true-right (namesA t k && eqb (aAt t k) (bAt t k)) _ (rw (e, eq-eqb (bAt t k) _ refl))
 
   -- a child weighs its nodes before record k, and nothing after it
   child-before : (c : ℕ) → names t k c ≡ true → weight t k c ≡ nodes (expOf t c)
@@ -125,21 +122,27 @@ module _ (t : List ℕ) (p : Passes t) (k : ℕ) (l : k < count t) where
       omega (
         arith,
         two-nodes e,
-        child-before (aAt t k) (names-a e),
-        child-before (bAt t k) (names-b e),
-        sum-two (weight t k) (weight t (suc k)) (weight-less t k) (aAt t k) (bAt t k) k (child-after _ (names-a e)) (child-after _ (names-b e))
+        child-before (aAt t k) a-named,
+        child-before (bAt t k) b-named,
+        sum-two (weight t k) (weight t (suc k)) (weight-less t k) (aAt t k) (bAt t k) k (child-after _ a-named) (child-after _ b-named)
             (children-differ t p k l e)
             (a-below t p k l e)
             (b-below t p k l e),
       )
+    where
+      a-named : names t k (aAt t k) ≡ true
+      a-named = names-a (two-names t k e .0)
+
+      b-named : names t k (bAt t k) ≡ true
+      b-named = names-b (two-names t k e .1)
 
   step-star : kindAt t k ≡ 5 → nodes (expOf t k) + sum (weight t (suc k)) k ≤ suc (sum (weight t k) k)
   step-star e =
       omega (
         arith,
         ap nodes (exp-star t k e (star-a-below t p k l e)),
-        child-before (aAt t k) (star-names e),
-        sum-one (weight t k) (weight t (suc k)) (weight-less t k) (aAt t k) k (child-after _ (star-names e)) (star-a-below t p k l e),
+        child-before (aAt t k) (names-a (star-names t k e .0)),
+        sum-one (weight t k) (weight t (suc k)) (weight-less t k) (aAt t k) k (child-after _ (names-a (star-names t k e .0))) (star-a-below t p k l e),
       )
 
   step-plain : nodes (expOf t k) ≡ 1 → nodes (expOf t k) + sum (weight t (suc k)) k ≤ suc (sum (weight t k) k)

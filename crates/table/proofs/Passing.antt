@@ -5,13 +5,13 @@ use native.Mathlib.Omega.{arith}
 use native.Mathlib.Nat.{eq-or-lt-of-le}
 use mathlib.Core.Path.{_≡_, refl, sym, _∙_}
 use mathlib.Core.Logic.{_⊎_, inl, inr, ⊎-elim}
-use mathlib.Core.Bool.{Bool, true, false, not, _||_, true≢false}
+use mathlib.Core.Bool.{Bool, true, false, not, _&&_, _||_, true≢false}
 use mathlib.Core.List.{List}
 use lib.Dec.{ltb, eqb}
 use lib.ListN.{length}
 use borrow.Author.Tests.{ltb-true, ltb-false, eqb-true, eqb-false, not-false}
 use Rattle.table.specs.Records.{count, kindAt, aAt, bAt}
-use Rattle.table.specs.Faults.{byKind, names, namedBelow, badNamed, Passes}
+use Rattle.table.specs.Faults.{namesA, namesB, unusedA, unusedB, names, namedBelow, badNamed, Passes}
 
 -- a test of two parts is false, or true, by its parts
 pub or-false-left : (x y : Bool) → (x || y) ≡ false → x ≡ false
@@ -45,35 +45,41 @@ size-of n e =
 pub count-bound : (t : List ℕ) → Passes t → (1 ≤ count t) × (count t ≤ 255) × (length t ≡ 4 * count t)
 count-bound t p = size-of (length t) (p .free-1)
 
--- a test that goes by kind is its part for Or and Seq at either, and its part for Nothing and Empty at either
-pub by-two : (kind : ℕ) (p r two s o : Bool) → (kind ≡ 3) ⊎ (kind ≡ 4) → byKind kind p r two s o ≡ two
-by-two kind p r two s o = ⊎-elim (λ (e : kind ≡ 3). rw e) (λ (e : kind ≡ 4). rw e)
+-- a test of both fields, each where the kind has it so, is false: so is its part for a field that the kind has so
+both-free-a : (x y z w : Bool) → ((x && y) || (z && w)) ≡ false → x ≡ true → y ≡ false
+both-free-a x y z w e f = rw f at (or-false-left (x && y) _ e)
 
-pub by-plain : (kind : ℕ) (p r two s o : Bool) → (kind ≡ 0) ⊎ (kind ≡ 1) → byKind kind p r two s o ≡ p
-by-plain kind p r two s o = ⊎-elim (λ (e : kind ≡ 0). rw e) (λ (e : kind ≡ 1). rw e)
+both-free-b : (x y z w : Bool) → ((x && y) || (z && w)) ≡ false → z ≡ true → w ≡ false
+both-free-b x y z w e f = rw f at (or-false-right (x && y) _ e)
 
-fresh-two : (a b c : ℕ) (N : ℕ → Bool) → (N a || (N b || eqb a b)) ≡ false → (eqb a c || eqb b c) ≡ true → N c ≡ false
-fresh-two a b c N e f =
-    let rest = or-false-right (N a) _ e in
-    ⊎-elim
-    (λ (g : eqb a c ≡ true). rw (eqb-true a c g) at (or-false-left (N a) _ e))
-    (λ (g : eqb b c ≡ true). rw (eqb-true b c g) at (or-false-left (N b) _ rest))
-    (or-true (eqb a c) _ f)
+-- the fields that are children's numbers, by kind
+module _ (t : List ℕ) (k : ℕ) where
+  pub two-names : (kindAt t k ≡ 3) ⊎ (kindAt t k ≡ 4) → (namesA t k ≡ true) × (namesB t k ≡ true)
+  two-names = ⊎-elim (λ (e : kindAt t k ≡ 3). rw e (refl, refl)) (λ (e : kindAt t k ≡ 4). rw e (refl, refl))
+
+  pub star-names : kindAt t k ≡ 5 → (namesA t k ≡ true) × (namesB t k ≡ false)
+  star-names e = rw e (refl, refl)
+
+and-both : (x y : Bool) → (x && y) ≡ true → (x ≡ true) × (y ≡ true)
+and-both true y e = (refl, e)
+and-both false y e = absurd (true≢false (sym e))
 
 -- a record that names c tests it for an earlier name
-fresh-by : (kind a b c : ℕ) (N : ℕ → Bool) → byKind kind false false (N a || (N b || eqb a b)) (N a) false ≡ false
-    → byKind kind false false (eqb a c || eqb b c) (eqb a c) false ≡ true → N c ≡ false
-fresh-by zero a b c N e f = absurd (true≢false (sym f))
-fresh-by (suc zero) a b c N e f = absurd (true≢false (sym f))
-fresh-by (suc (suc zero)) a b c N e f = absurd (true≢false (sym f))
-fresh-by (suc (suc (suc zero))) a b c N e f = fresh-two a b c N e f
-fresh-by (suc (suc (suc (suc zero)))) a b c N e f = fresh-two a b c N e f
-fresh-by (suc (suc (suc (suc (suc zero))))) a b c N e f = rw (eqb-true a c f) at e
-fresh-by (suc (suc (suc (suc (suc (suc n)))))) a b c N e f = absurd (true≢false (sym f))
+fresh-by : (x z : Bool) (a b c : ℕ) (N : ℕ → Bool) → ((x && N a) || (z && (N b || eqb a b))) ≡ false
+    → ((x && eqb a c) || (z && eqb b c)) ≡ true → N c ≡ false
+fresh-by x z a b c N e f =
+    ⊎-elim
+    (λ (g : (x && eqb a c) ≡ true).
+    let h = and-both x _ g in
+    rw (eqb-true a c (h .1)) at (both-free-a x (N a) z _ e (h .0)))
+    (λ (g : (z && eqb b c) ≡ true).
+    let h = and-both z _ g in
+    rw (eqb-true b c (h .1)) at (or-false-left (N b) _ (both-free-b x (N a) z _ e (h .0))))
+    (or-true (x && eqb a c) _ f)
 
 -- a child of record k is not named below k
 pub fresh : (t : List ℕ) (k c : ℕ) → badNamed t k ≡ false → names t k c ≡ true → namedBelow t k c ≡ false
-fresh t k c = fresh-by (kindAt t k) (aAt t k) (bAt t k) c (namedBelow t k)
+fresh t k c = fresh-by (namesA t k) (namesB t k) (aAt t k) (bAt t k) c (namedBelow t k)
 
 -- a child of record j is named below each higher k
 pub named-later : (t : List ℕ) (j k c : ℕ) → j < k → names t j c ≡ true → namedBelow t k c ≡ true
@@ -88,39 +94,35 @@ module _ (t : List ℕ) (p : Passes t) (k : ℕ) (l : k < count t) where
   pub kind-small : kindAt t k ≤ 5
   kind-small = ltb-false 5 (kindAt t k) (p .free-2 k l)
 
-  -- what Nothing and Empty, and Star, do not use
-  pub unused-zero : (kindAt t k ≡ 0) ⊎ (kindAt t k ≡ 1) → (aAt t k ≡ 0) × (bAt t k ≡ 0)
-  unused-zero e =
-      let z : (not (eqb (aAt t k) 0) || not (eqb (bAt t k) 0)) ≡ false = sym (by-plain (kindAt t k) _ _ _ _ _ e) ∙ p .free-3 k l in (
-        eqb-true _ _ (not-false _ (or-false-left (not (eqb (aAt t k) 0)) _ z)),
-        eqb-true _ _ (not-false _ (or-false-right (not (eqb (aAt t k) 0)) _ z)),
-      )
+  -- the fields that the kind does not use
+  pub unused-a-zero : unusedA t k ≡ true → aAt t k ≡ 0
+  unused-a-zero e = eqb-true _ _ (not-false _ (both-free-a (unusedA t k) _ (unusedB t k) _ (p .free-3 k l) e))
 
-  pub star-unused-zero : kindAt t k ≡ 5 → bAt t k ≡ 0
-  star-unused-zero e = eqb-true _ _ (not-false _ (rw e at (p .free-3 k l)))
+  pub unused-b-zero : unusedB t k ≡ true → bAt t k ≡ 0
+  unused-b-zero e = eqb-true _ _ (not-false _ (both-free-b (unusedA t k) _ (unusedB t k) _ (p .free-3 k l) e))
 
   pub range-ordered : kindAt t k ≡ 2 → aAt t k ≤ bAt t k
   range-ordered e = ltb-false (bAt t k) (aAt t k) (rw e at (p .free-4 k l))
 
   -- children stand below their parent
-  two-below : (kindAt t k ≡ 3) ⊎ (kindAt t k ≡ 4) → (not (ltb (aAt t k) k) || not (ltb (bAt t k) k)) ≡ false
-  two-below e = sym (by-two (kindAt t k) _ _ _ _ _ e) ∙ p .free-5 k l
+  child-a-below : namesA t k ≡ true → aAt t k < k
+  child-a-below e = ltb-true _ _ (not-false _ (both-free-a (namesA t k) _ (namesB t k) _ (p .free-5 k l) e))
 
   pub a-below : (kindAt t k ≡ 3) ⊎ (kindAt t k ≡ 4) → aAt t k < k
-  a-below e = ltb-true _ _ (not-false _ (or-false-left (not (ltb (aAt t k) k)) _ (two-below e)))
+  a-below e = child-a-below (two-names t k e .0)
 
   pub b-below : (kindAt t k ≡ 3) ⊎ (kindAt t k ≡ 4) → bAt t k < k
-  b-below e = ltb-true _ _ (not-false _ (or-false-right (not (ltb (aAt t k) k)) _ (two-below e)))
+  b-below e = ltb-true _ _ (not-false _ (both-free-b (namesA t k) _ (namesB t k) _ (p .free-5 k l) (two-names t k e .1)))
 
   pub star-a-below : kindAt t k ≡ 5 → aAt t k < k
-  star-a-below e = ltb-true _ _ (not-false _ (rw e at (p .free-5 k l)))
+  star-a-below e = child-a-below (star-names t k e .0)
 
   -- the two children of one record differ
   pub children-differ : (kindAt t k ≡ 3) ⊎ (kindAt t k ≡ 4) → ¬ (aAt t k ≡ bAt t k)
   children-differ e =
-      let z : (namedBelow t k (aAt t k) || (namedBelow t k (bAt t k) || eqb (aAt t k) (bAt t k))) ≡ false =
-      sym (by-two (kindAt t k) _ _ _ _ _ e) ∙ p .free-6 k l in
-      eqb-false _ _ (or-false-right (namedBelow t k (bAt t k)) _ (or-false-right (namedBelow t k (aAt t k)) _ z))
+      eqb-false _ _
+      (or-false-right (namedBelow t k (bAt t k)) _
+      (both-free-b (namesA t k) _ (namesB t k) _ (p .free-6 k l) (two-names t k e .1)))
 
 -- no record is a child of two records
 pub child-once : (t : List ℕ) → Passes t → (j k c : ℕ) → j < k → k < count t → names t j c ≡ true → names t k c ≡ false

@@ -3,46 +3,52 @@
 -- Assumes nothing.
 use Prim.Native.Nat.{ℕ, zero, suc, _<_, _%_}
 use mathlib.Core.Path.{_≡_}
-use mathlib.Core.Bool.{Bool, false, not, _||_}
+use mathlib.Core.Bool.{Bool, false, not, _&&_, _||_}
 use mathlib.Core.List.{List}
 use lib.Dec.{ltb, eqb}
 use lib.ListN.{length}
-use Rattle.table.specs.Records.{count, kindAt, aAt, bAt}
+use Rattle.table.specs.Records.{count, kindAt, aAt, bAt, isNothing, isEmpty, isRange, isOr, isSeq, isStar}
 
 -- 1: "table of 0 bytes, over 1,020, or not a multiple of 4"
 abbrev pub badSize : List ℕ → Bool
 badSize t = eqb (length t) 0 || (ltb 1020 (length t) || not (eqb (length t % 4) 0))
 
--- a test that goes by a record's kind: the first answer at Nothing and Empty, then Range, Or and Seq, Star, and any other
-abbrev pub byKind : ℕ → Bool → Bool → Bool → Bool → Bool → Bool
-byKind zero plain range two star other = plain
-byKind (suc zero) plain range two star other = plain
-byKind (suc (suc zero)) plain range two star other = range
-byKind (suc (suc (suc zero))) plain range two star other = two
-byKind (suc (suc (suc (suc zero)))) plain range two star other = two
-byKind (suc (suc (suc (suc (suc zero))))) plain range two star other = star
-byKind (suc (suc (suc (suc (suc (suc n)))))) plain range two star other = other
+-- What the rule table's column 'a, b' gives for a field, by kind.
+-- a is a child's number ("records of r1, r2" at Or and Seq, "record of r" at Star)
+abbrev pub namesA : List ℕ → ℕ → Bool
+namesA t k = isOr t k || isSeq t k || isStar t k
+
+-- b is a child's number ("records of r1, r2" at Or and Seq)
+abbrev pub namesB : List ℕ → ℕ → Bool
+namesB t k = isOr t k || isSeq t k
+
+-- a is 0 ("0, 0" at Nothing and Empty)
+abbrev pub unusedA : List ℕ → ℕ → Bool
+unusedA t k = isNothing t k || isEmpty t k
+
+-- b is 0 ("0, 0" at Nothing and Empty, "record of r, 0" at Star)
+abbrev pub unusedB : List ℕ → ℕ → Bool
+unusedB t k = isNothing t k || isEmpty t k || isStar t k
 
 -- 2: "kind above 5"
 abbrev pub badKind : List ℕ → ℕ → Bool
 badKind t k = ltb 5 (kindAt t k)
 
--- 3: "an a or b that the table above gives as 0 is not 0": both of Nothing and Empty, b of Star
+-- 3: "an a or b that the table above gives as 0 is not 0"
 abbrev pub badUnused : List ℕ → ℕ → Bool
-badUnused t k =
-    byKind (kindAt t k) (not (eqb (aAt t k) 0) || not (eqb (bAt t k) 0)) false false (not (eqb (bAt t k) 0)) false
+badUnused t k = (unusedA t k && not (eqb (aAt t k) 0)) || (unusedB t k && not (eqb (bAt t k) 0))
 
 -- 4: "Range with a > b"
 abbrev pub badRange : List ℕ → ℕ → Bool
-badRange t k = byKind (kindAt t k) false (ltb (bAt t k) (aAt t k)) false false false
+badRange t k = isRange t k && ltb (bAt t k) (aAt t k)
 
 -- 5: "child number not below its parent's"
 abbrev pub badChild : List ℕ → ℕ → Bool
-badChild t k = byKind (kindAt t k) false false (not (ltb (aAt t k) k) || not (ltb (bAt t k) k)) (not (ltb (aAt t k) k)) false
+badChild t k = (namesA t k && not (ltb (aAt t k) k)) || (namesB t k && not (ltb (bAt t k) k))
 
 -- record j names c as a child
 abbrev pub names : List ℕ → ℕ → ℕ → Bool
-names t j c = byKind (kindAt t j) false false (eqb (aAt t j) c || eqb (bAt t j) c) (eqb (aAt t j) c) false
+names t j c = (namesA t j && eqb (aAt t j) c) || (namesB t j && eqb (bAt t j) c)
 
 -- some record below k names c as a child
 abbrev pub namedBelow : List ℕ → ℕ → ℕ → Bool
@@ -52,10 +58,7 @@ namedBelow t (suc j) c = names t j c || namedBelow t j c
 -- 6: "a child already named, by a lower record or by the other field"
 abbrev pub badNamed : List ℕ → ℕ → Bool
 badNamed t k =
-    byKind (kindAt t k) false false
-    (namedBelow t k (aAt t k) || (namedBelow t k (bAt t k) || eqb (aAt t k) (bAt t k)))
-    (namedBelow t k (aAt t k))
-    false
+    (namesA t k && namedBelow t k (aAt t k)) || (namesB t k && (namedBelow t k (bAt t k) || eqb (aAt t k) (bAt t k)))
 
 -- the table is free of refusals 1 to 6
 pub record Passes (t : List ℕ) : Type 0 where

@@ -1,7 +1,9 @@
 -- The rule table of document 01: records of 4 bytes, kind, a, b, tag, numbered from 0. A table is the list t of its bytes.
 -- Assumes nothing.
 use Prim.Native.Nat.{ℕ, _+_, _*_, _/_}
+use mathlib.Core.Bool.{Bool}
 use mathlib.Core.List.{List}
+use lib.Dec.{eqb}
 use lib.ListN.{length, getD}
 
 -- m, how many records the table has
@@ -20,3 +22,22 @@ bAt t k = getD t (4 * k + 2) 0
 
 abbrev pub tagAt : List ℕ → ℕ → ℕ
 tagAt t k = getD t (4 * k + 3) 0
+
+-- the kinds of document 01's table, by their numbers: record k is a Nothing, an Empty, ..
+abbrev pub isNothing : List ℕ → ℕ → Bool
+isNothing t k = eqb (kindAt t k) 0
+
+abbrev pub isEmpty : List ℕ → ℕ → Bool
+isEmpty t k = eqb (kindAt t k) 1
+
+abbrev pub isRange : List ℕ → ℕ → Bool
+isRange t k = eqb (kindAt t k) 2
+
+abbrev pub isOr : List ℕ → ℕ → Bool
+isOr t k = eqb (kindAt t k) 3
+
+abbrev pub isSeq : List ℕ → ℕ → Bool
+isSeq t k = eqb (kindAt t k) 4
+
+abbrev pub isStar : List ℕ → ℕ → Bool
+isStar t k = eqb (kindAt t k) 5
