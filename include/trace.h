@@ -4,10 +4,10 @@
  * Every call returns one 64-bit number: its result, or a refusal's number times 2^32 plus the refusal's detail. Take it apart with
  * trace_is_refused, trace_refusal and trace_detail. A result is always below 2^32.
  *
- * What the caller owes: a pointer with a length above 0 points to that many bytes; a pointer with length 0 is not null (any address will
- * do); and a buffer that a call writes to (work, out) overlaps no other argument. Nothing else: every table, start number, line,
- * reading and length is taken, and the call comes to an end with its result or a refusal. The calls keep no state and allocate nothing;
- * several threads may call at once on buffers of their own. A call needs less than 1 MiB of stack.
+ * What the caller owes: a pointer with a length above 0 points to that many bytes (one with length 0 may be null, or any address), and a
+ * buffer that a call writes to (work, out) overlaps no other argument. Nothing else: every table, start number, line, reading and length
+ * is taken, and the call comes to an end with its result or a refusal. The calls keep no state and allocate nothing; several threads may
+ * call at once on buffers of their own. A call needs less than 1 MiB of stack.
  *
  * Link with libtrace.a (make lib).
  */

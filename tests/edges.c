@@ -1,5 +1,6 @@
 /*
  * Every refusal of Read, Spell, Compare and Tokens at its edge, with the answers that document 01 states; buffers are compared byte for byte.
+ * And null pointers with length 0, in all five calls.
  * Prints the number of answers, or the first one that is wrong.
  */
 #include <stdio.h>
@@ -71,6 +72,33 @@ static void read(const char *name, Bytes table, uint64_t start, Bytes line, size
             printf("edges: %s: byte %zu of the work area\n", name, i);
             exit(1);
         }
+}
+
+/*
+ * Every choice of empty arguments, for each call: a null pointer with length 0 gets the answer of a valid pointer with length 0, and the
+ * buffer is left the same. The bits of `empties`: 0 the table, 1 the line or the reading, 2 the work area or the second reading, 3 the
+ * buffer.
+ */
+static void nulls(Bytes table, uint64_t start, Bytes line, Bytes reading, Bytes rival)
+{
+    static uint8_t work[100], out[2][16], spare[1];
+    for (int empties = 0; empties < 16; empties++) {
+        uint64_t got[2][5];
+        for (int null = 0; null < 2; null++) {
+            uint8_t *at = null ? NULL : spare, *to = out[null];
+            memset(to, 0xee, sizeof out[null]);
+#define ARG(i, pointer, length) (empties >> (i) & 1 ? at : (pointer)), (empties >> (i) & 1 ? 0 : (length))
+            got[null][0] = trace_check(ARG(0, table.at, table.length));
+            got[null][1] = trace_read(ARG(0, table.at, table.length), start, ARG(1, line.at, line.length), ARG(2, work, sizeof work), ARG(3, to, 16));
+            got[null][2] = trace_spell(ARG(0, table.at, table.length), start, ARG(1, reading.at, reading.length), ARG(3, to, 16));
+            got[null][3] = trace_compare(ARG(0, table.at, table.length), start, ARG(1, reading.at, reading.length), ARG(2, rival.at, rival.length));
+            got[null][4] = trace_tokens(ARG(0, table.at, table.length), start, ARG(1, reading.at, reading.length), ARG(3, to, 16));
+#undef ARG
+        }
+        for (int call = 0; call < 5; call++)
+            expect("null with length 0", got[1][call], got[0][call]);
+        expect_buffer("null with length 0", out[1], sizeof out[1], (Bytes){out[0], sizeof out[0]});
+    }
 }
 
 int main(void)
@@ -179,6 +207,12 @@ int main(void)
     read("a line of 255, one work byte short", any, 1, (Bytes){line, 255}, 65791, 512, REFUSED(10, 0), empty, 1);
     read("a line of 256", any, 1, (Bytes){line, 256}, 0, 0, REFUSED(7, 0), empty, 1);
     read("a refused table", bad, 9, (Bytes){line, 256}, 0, 0, REFUSED(2, 0), empty, 1);
+
+    /* null pointers: with a line, and where an empty line and an empty buffer are no refusal */
+    nulls(t1, 9, abc, c, c);
+    nulls(t1, 9, empty, stars, c);
+    nulls(t2, 8, ab, f, g);
+    nulls(t4, 0, empty, void_, void_);
 
     printf("edges: %d answers ok\n", answers);
     return 0;
