@@ -45,7 +45,7 @@ size-of n e =
 pub count-bound : (t : List ℕ) → Passes t → (1 ≤ count t) × (count t ≤ 255) × (length t ≡ 4 * count t)
 count-bound t p = size-of (length t) (p .free-1)
 
--- a test of both fields, each where the kind has it so, is false: so is its part for a field that the kind has so
+-- no field fails its test: a field that is tested does not fail
 both-free-a : (x y z w : Bool) → ((x && y) || (z && w)) ≡ false → x ≡ true → y ≡ false
 both-free-a x y z w e f = rw f at (or-false-left (x && y) _ e)
 
