@@ -1,0 +1,4 @@
+-- The laws of lines.
+pub mod Splitting
+pub mod Ends
+pub mod Keeping
