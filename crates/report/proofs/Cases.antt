@@ -11,7 +11,7 @@ use Rattle.report.specs.Report.{lineReport, tableReport}
 use Rattle.report.specs.Text.{decimal}
 
 -- T1, whose last record is 9
-abbrev T1 : List ℕ
+abbrev pub T1 : List ℕ
 T1 =
     2 ∷ 0x61 ∷ 0x61 ∷ 1
     ∷ 2 ∷ 0x61 ∷ 0x61 ∷ 0
@@ -25,19 +25,19 @@ T1 =
     ∷ 5 ∷ 8 ∷ 0 ∷ 0 ∷ []
 
 -- the lines abc, empty and b
-abbrev reports : List ℕ
-reports = lineReport T1 9 1 (0x61 ∷ 0x62 ∷ 0x63 ∷ []) ++ (lineReport T1 9 2 [] ++ lineReport T1 9 3 (0x62 ∷ []))
+abbrev pub example-reports : List ℕ
+example-reports = lineReport T1 9 1 (0x61 ∷ 0x62 ∷ 0x63 ∷ []) ++ (lineReport T1 9 2 [] ++ lineReport T1 9 3 (0x62 ∷ []))
 
 -- "line 1 ok 2", "1 0 1", "3 1 2", "line 2 ok 0", "line 3 refused 8", each with its line end
-abbrev printed : List ℕ
-printed =
+abbrev pub example-text : List ℕ
+example-text =
     0x6c ∷ 0x69 ∷ 0x6e ∷ 0x65 ∷ 0x20 ∷ 0x31 ∷ 0x20 ∷ 0x6f ∷ 0x6b ∷ 0x20 ∷ 0x32 ∷ 0x0a
     ∷ 0x31 ∷ 0x20 ∷ 0x30 ∷ 0x20 ∷ 0x31 ∷ 0x0a
     ∷ 0x33 ∷ 0x20 ∷ 0x31 ∷ 0x20 ∷ 0x32 ∷ 0x0a
     ∷ 0x6c ∷ 0x69 ∷ 0x6e ∷ 0x65 ∷ 0x20 ∷ 0x32 ∷ 0x20 ∷ 0x6f ∷ 0x6b ∷ 0x20 ∷ 0x30 ∷ 0x0a
     ∷ 0x6c ∷ 0x69 ∷ 0x6e ∷ 0x65 ∷ 0x20 ∷ 0x33 ∷ 0x20 ∷ 0x72 ∷ 0x65 ∷ 0x66 ∷ 0x75 ∷ 0x73 ∷ 0x65 ∷ 0x64 ∷ 0x20 ∷ 0x38 ∷ 0x0a ∷ []
 
-pub example-holds : reports ≡ printed
+pub example-holds : example-reports ≡ example-text
 unfolding lineReport decimal readSays tokensSays readingOf expOf below
 example-holds = refl
 

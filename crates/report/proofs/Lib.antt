@@ -4,3 +4,4 @@ pub mod Digits
 pub mod TokenLines
 pub mod Cases
 mod Reports
+pub mod Long

@@ -49,7 +49,7 @@ refused-number {r} {why} {said} {n} e f h =
 abbrev pub Printed : List ℕ → List ℕ → ℕ → ℕ → List ℕ → Type 0
 Printed a b most n text = (n ≤ most) × ((n ≡ length text) × (b ≡ text ++ drop (length text) a))
 
-printed : {a b : List ℕ} {n : ℕ} {xs text : List ℕ} (most : ℕ) → Wrote a b 0 n xs → n ≤ most → most ≤ length a → xs ≡ text → Printed a b most n text
+pub printed : {a b : List ℕ} {n : ℕ} {xs text : List ℕ} (most : ℕ) → Wrote a b 0 n xs → n ≤ most → most ≤ length a → xs ≡ text → Printed a b most n text
 printed most w l h e = (l, wrote-front (wrote-as w e) (omega arith))
 
 -- a table

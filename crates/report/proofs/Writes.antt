@@ -72,18 +72,3 @@ pub wrote-5 :
     {a b c d e f : List ℕ} {at i j k l m : ℕ} {xs ys zs us vs : List ℕ} → Wrote a b at i xs → Wrote b c i j ys → Wrote c d j k zs
     → Wrote d e k l us → Wrote e f l m vs → Wrote a f at m (xs ++ (ys ++ (zs ++ (us ++ vs))))
 wrote-5 u v w x y = wrote-then u (wrote-then v (wrote-3 w x y))
-
--- a byte taken into the kept line, which has room or is full
-pub byte-kept :
-    (line : List ℕ) (size b : ℕ) → length line ≡ 256 → size < 256 → take (size + 1) (set line size b) ≡ take 256 (take size line ++ (b ∷ []))
-byte-kept line size b l h =
-    let n : length (take size line ++ (b ∷ [])) ≤ 256 =
-    omega (arith, length-append (take size line) (b ∷ []), length-take-le size line (omega arith)) in
-    ap (λ (i : ℕ). take i (set line size b)) (add-one size) ∙ take-suc-set line size b (omega arith) ∙ sym (take-all 256 (take size line ++ (b ∷ [])) n)
-
-pub byte-dropped :
-    (line : List ℕ) (size b : ℕ) → length line ≡ 256 → size ≤ 256 → 256 ≤ size → take size line ≡ take 256 (take size line ++ (b ∷ []))
-byte-dropped line size b l h g =
-    let n : length (take size line) ≡ size = length-take-le size line (omega arith) in
-    let full : 256 ≡ length (take size line) = omega arith in
-    sym (ap (λ (i : ℕ). take i (take size line ++ (b ∷ []))) full ∙ take-append-seam (take size line) (b ∷ []))

@@ -14,7 +14,7 @@ use Rattle.reading.specs.Calls.{bytesOf}
 use Rattle.tokens.specs.Tokens.{Token, tokensFrom}
 use Rattle.tokens.specs.Listed.{tokensSays}
 use Rattle.matcher.specs.Calls.{readSays}
-use Rattle.report.specs.Text.{decimal, lineWord, okWord, refusedWord, tableWord}
+use Rattle.report.specs.Text.{decimal, lineWord, okWord, refusedWord, tableWord, failureWord}
 
 -- "Its work area is 65,536 bytes, reading buffer 32,768, token buffer 4,096."
 abbrev pub workLength : ℕ
@@ -69,3 +69,7 @@ tableSaid (refuses r d) = tableWord ++ (refusedWord ++ (decimal r ++ (10 ∷ [])
 
 unfoldable pub tableReport : List ℕ → List ℕ
 tableReport t = tableSaid (checked t)
+
+-- what is said on standard error of a read that failed in the line with a number; the error's own text follows it there
+abbrev pub failureText : ℕ → List ℕ
+failureText number = failureWord ++ decimal number

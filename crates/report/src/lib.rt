@@ -1,13 +1,13 @@
 // What the program prints for a table and for a line.
 
-ghost use Prim.Native.Nat.{ℕ, _+_, _*_, _≤_, _<_, min};
+ghost use Prim.Native.Nat.{ℕ, _+_, _*_, _≤_, _<_};
 ghost use mathlib.Core.Path.{_≡_};
 ghost use mathlib.Core.List.{List, [], _∷_, _++_};
 ghost use lib.ListN.{length, take, drop};
 ghost use Rattle.table.specs.Answers.{refuses, refusal};
 ghost use Rattle.tokens.specs.Tokens.{Token, tokenBytes};
 ghost use Rattle.report.specs.Text.{decimal, okWord, refusedWord, tableWord};
-ghost use Rattle.report.specs.Report.{tokenLine, tokenLines, refusedLine, workLength, readingLength, tokenLength, lineReport, tableReport};
+ghost use Rattle.report.specs.Report.{tokenLine, tokenLines, refusedLine, workLength, readingLength, tokenLength, lineReport, tableReport, failureText};
 ghost use Rattle.report.specs.Writes.{Wrote, lineWith, readingReport};
 use table::Answer;
 use table::Refusal;
@@ -203,16 +203,13 @@ pub fn report_table(table: &[u8], out: &mut [u8]) -> usize
     }
 }
 
-// Takes a byte of the input into the line, of which the first 256 bytes are kept, and returns the number of bytes kept.
-pub fn take_byte(line: &mut [u8], size: usize, b: u8) -> usize
-    requires line { ⌜ length (now line) ≡ 256 ⌝ }
-    requires size { ⌜ size ≤ 256 ⌝ }
-    ensures size { λ r. ⌜ r ≡ min (size + 1) 256 ⌝ }
-    ensures kept { λ r. ⌜ take r (now (line .exit)) ≡ take 256 (take size (now (line .entry)) ++ (b ∷ [])) ⌝ }
+// Writes what is said of a read of standard input that failed in the line with a number, to the front of the buffer, and returns its length.
+pub fn report_failure(number: u64, out: &mut [u8]) -> usize
+    requires { ⌜ 64 ≤ length (now out) ⌝ }
+    ensures bound { λ r. ⌜ r ≤ 64 ⌝ }
+    ensures size { λ r. ⌜ r ≡ length (failureText number) ⌝ }
+    ensures buffer { λ _. ⌜ now (out .exit) ≡ failureText number ++ drop (length (failureText number)) (now (out .entry)) ⌝ }
 {
-    if size < 256 {
-        line[size] = b;
-        return size + 1;
-    }
-    size
+    let number_at = put_text(out, 0, b"tracecut: reading failed in line ");
+    put_decimal(out, number_at, number)
 }

@@ -1,1 +1,2 @@
-mod Moved
+-- The steps of the program's loops.
+mod Moving

@@ -1,2 +1,2 @@
--- What the program's functions are given.
-pub mod Ready
+-- What a read of the program answers.
+pub mod Reads

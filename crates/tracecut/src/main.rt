@@ -1,22 +1,108 @@
-// Reads lines from standard input and prints the tokens of each by the rule table in the file rules.tab.
+// Reads lines from standard input and prints the tokens of each by the rule table in the file rules.tab. What is printed is made by `report`
+// and `stream`; here it is only read and written.
 
-ghost use Prim.Native.Nat.{_≤_};
+ghost use Prim.Native.Nat.{_+_, _≤_, _<_};
 ghost use mathlib.Core.Path.{_≡_};
 ghost use lib.ListN.{length};
-ghost use Rattle.tracecut.specs.Ready.{Ready};
+ghost use Rattle.stream.specs.Buffers.{Buffers};
+ghost use Rattle.tracecut.specs.Reads.{failedRead};
+use libc::STDERR_FILENO;
 use libc::STDIN_FILENO;
 use libc::STDOUT_FILENO;
 
-// What stands between two bytes of the input: the bytes kept of the line, the lines ended so far, the bytes that wait in the output buffer,
-// and whether writing failed.
+// What stands between two blocks of input: the bytes kept of the line that has not ended yet, the lines ended so far, and whether writing
+// failed.
 struct State {
     kept: usize,
-    lines: u64,
-    waiting: usize,
+    ended: u64,
     failed: bool,
 }
 
-// Reads rules.tab, of which a missing file counts as 0 bytes, and returns its size, at most the buffer's.
+// Whether a read failed, by its answer. The end of the input is not a failure, and a failure not the end of the input.
+fn is_failure(answer: isize) -> bool
+    ensures { λ r. ⌜ r ≡ failedRead answer ⌝ }
+{
+    answer < 0
+}
+
+// Whether a read or a write that failed is to be tried again: a signal interrupted it, or the descriptor would block, which is waited for.
+fn is_to_be_tried_again() -> bool {
+    let error = os::errno();
+    if error == libc::EINTR {
+        return true;
+    }
+    if error == libc::EAGAIN {
+        sleeper::pause();
+        return true;
+    }
+    false
+}
+
+// One read, which answers as libc's: the bytes read, 0 at the input's end, or -1. A proved loop has to end, so this one counts its turns down,
+// from a number that no run uses up.
+fn read_some(fd: i32, buffer: &mut [u8]) -> isize {
+    let mut turns = u64::MAX;
+    while turns > 0 {
+        let got = libc::read(fd, buffer);
+        if !is_failure(got) {
+            return got;
+        }
+        if !is_to_be_tried_again() {
+            return got;
+        }
+        turns -= 1;
+    }
+    -1
+}
+
+// Writes bytes to standard output, and says whether all were written.
+fn write_whole(bytes: &[u8]) -> bool {
+    let mut done = 0;
+    let mut turns = u64::MAX;
+    while done < bytes.len() {
+        let put = libc::write(STDOUT_FILENO, &bytes[done..]);
+        let n = io::count(put, &bytes[done..]);
+        if n == 0 {
+            if turns == 0 || put == 0 || !is_to_be_tried_again() {
+                return false;
+            }
+            turns -= 1;
+        }
+        done += n;
+    }
+    true
+}
+
+// Prints bytes, or says that writing failed.
+fn print(bytes: &[u8]) -> bool {
+    if write_whole(bytes) {
+        return true;
+    }
+    os::fail(b"tracecut: writing failed");
+    false
+}
+
+// Reads a file until it ends or the buffer is full, and returns the number of bytes: 0 where a read fails, whatever came before.
+fn read_file(fd: i32, buffer: &mut [u8]) -> usize
+    ensures { λ r. ⌜ r ≤ length (now (buffer .exit)) ⌝ }
+{
+    let mut done = 0;
+    while done < buffer.len() {
+        let got = read_some(fd, &mut buffer[done..]);
+        if is_failure(got) {
+            os::fail(b"tracecut: reading rules.tab failed");
+            return 0;
+        }
+        let n = io::count(got, &buffer[done..]);
+        if n == 0 {
+            return done;
+        }
+        done += n;
+    }
+    done
+}
+
+// Reads rules.tab and returns its size, at most the buffer's. A missing file counts as 0 bytes.
 fn read_table(table: &mut [u8]) -> usize
     ensures { λ r. ⌜ r ≤ length (now (table .exit)) ⌝ }
 {
@@ -24,72 +110,14 @@ fn read_table(table: &mut [u8]) -> usize
     if fd < 0 {
         return 0;
     }
-    let size = io::read_full(fd, table);
+    let size = read_file(fd, table);
     libc::close(fd);
     size
 }
 
-// The number of the last record of a table of so many bytes.
-fn last_record(size: usize) -> usize {
-    let records = size / 4;
-    if records == 0 { 0 } else { records - 1 }
-}
-
-// The number of the next line, unless it is the largest.
-fn next_number(lines: u64) -> u64 {
-    if lines < u64::MAX { lines + 1 } else { lines }
-}
-
-// Puts the report of the kept line into the output buffer, and writes the buffer where less than a report's room is left.
-fn end_line(
+// Prints the reports of the lines that end in a block of input.
+fn print_block(
     table: &[u8],
-    start: usize,
-    state: State,
-    line: &[u8],
-    work: &mut [u8],
-    reading: &mut [u8],
-    tokens: &mut [u8],
-    out: &mut [u8],
-) -> State
-    requires { ⌜ Ready (now line) (now work) (now reading) (now tokens) (now out) (state .kept) (state .waiting) ⌝ }
-    ensures kept { λ r. ⌜ r .kept ≡ 0 ⌝ }
-    ensures waiting { λ r. ⌜ r .waiting ≤ 32768 ⌝ }
-{
-    let kept = state.kept;
-    let waiting = state.waiting;
-    let number = next_number(state.lines);
-    let size = report::report_line(
-        table,
-        start,
-        number,
-        &line[..kept],
-        work,
-        reading,
-        tokens,
-        &mut out[waiting..],
-    );
-    let filled = waiting + size;
-    if filled <= 32768 {
-        return State {
-            kept: 0,
-            lines: number,
-            waiting: filled,
-            failed: false,
-        };
-    }
-    let is_written = io::write_all(STDOUT_FILENO, &out[..filled]);
-    State {
-        kept: 0,
-        lines: number,
-        waiting: 0,
-        failed: !is_written,
-    }
-}
-
-// Takes the bytes of a block of input: byte 10 ends a line, and any other is taken into the line.
-fn take_block(
-    table: &[u8],
-    start: usize,
     block: &[u8],
     before: State,
     line: &mut [u8],
@@ -98,56 +126,60 @@ fn take_block(
     tokens: &mut [u8],
     out: &mut [u8],
 ) -> State
-    requires { ⌜ Ready (now line) (now work) (now reading) (now tokens) (now out) (before .kept) (before .waiting) ⌝ }
+    requires buffers { ⌜ Buffers (now work) (now reading) (now tokens) ⌝ }
+    requires line { ⌜ length (now line) ≡ 256 ⌝ }
+    requires out { ⌜ 32768 ≤ length (now out) ⌝ }
+    requires kept { ⌜ before .kept ≤ 256 ⌝ }
+    requires numbers { ⌜ before .ended + length (now block) < 18446744073709551615 ⌝ }
     ensures kept { λ r. ⌜ r .kept ≤ 256 ⌝ }
-    ensures waiting { λ r. ⌜ r .waiting ≤ 32768 ⌝ }
+    ensures numbers { λ r. ⌜ r .ended ≤ before .ended + length (now (block .entry)) ⌝ }
 {
-    let mut state = before;
-    let mut i = 0;
-    while i < block.len() {
-        let b = block[i];
-        if b == b'\n' {
-            state = end_line(table, start, state, line, work, reading, tokens, out);
-            if state.failed {
-                return state;
-            }
-        } else {
-            let kept = state.kept;
-            state.kept = report::take_byte(line, kept, b);
+    let mut at = 0;
+    let mut kept = before.kept;
+    let mut ended = before.ended;
+    while at < block.len() {
+        let step = stream::take_block(
+            table,
+            &block[at..],
+            kept,
+            ended,
+            line,
+            work,
+            reading,
+            tokens,
+            out,
+        );
+        let written = step.written;
+        if !print(&out[..written]) {
+            return State {
+                kept: 0,
+                ended: 0,
+                failed: true,
+            };
         }
-        i += 1;
+        kept = step.kept;
+        ended = step.ended;
+        at += step.taken;
     }
-    state
+    State {
+        kept,
+        ended,
+        failed: false,
+    }
 }
 
-// Reports the last line if it lacks byte 10, and writes what waits in the output buffer.
-fn finish(
-    table: &[u8],
-    start: usize,
-    before: State,
-    line: &[u8],
-    work: &mut [u8],
-    reading: &mut [u8],
-    tokens: &mut [u8],
-    out: &mut [u8],
-)
-    requires { ⌜ Ready (now line) (now work) (now reading) (now tokens) (now out) (before .kept) (before .waiting) ⌝ }
+// Says on standard error that reading failed, and in which line.
+fn say_failed(ended: u64, out: &mut [u8])
+    requires ended { ⌜ ended < 18446744073709551615 ⌝ }
+    requires out { ⌜ 64 ≤ length (now out) ⌝ }
 {
-    if before.kept == 0 {
-        let waiting = before.waiting;
-        io::write_all(STDOUT_FILENO, &out[..waiting]);
-        return;
-    }
-    let after = end_line(table, start, before, line, work, reading, tokens, out);
-    let waiting = after.waiting;
-    if !after.failed {
-        io::write_all(STDOUT_FILENO, &out[..waiting]);
-    }
+    let number = lines::line_number(ended);
+    let size = report::report_failure(number, out);
+    os::fail(&out[..size]);
 }
 
-// Reads standard input to its end and prints the reports of its lines. A proved loop has to end, so this one counts its turns down, from a
-// number that no run uses up.
-fn run(table: &[u8], start: usize, out: &mut [u8])
+// Reads standard input and prints the reports of its lines. A proved loop has to end, so this one stops after some 2^64 bytes.
+fn run(table: &[u8], out: &mut [u8])
     requires { ⌜ length (now out) ≡ 65536 ⌝ }
 {
     let mut block = [0u8; 65536];
@@ -155,22 +187,36 @@ fn run(table: &[u8], start: usize, out: &mut [u8])
     let mut work = [0u8; 65536];
     let mut reading = [0u8; 32768];
     let mut tokens = [0u8; 4096];
+    let begun = stream::begin();
     let mut state = State {
-        kept: 0,
-        lines: 0,
-        waiting: 0,
+        kept: begun.kept,
+        ended: begun.ended,
         failed: false,
     };
-    let mut turns = u64::MAX;
-    while turns > 0 {
-        let got = libc::read(STDIN_FILENO, &mut block);
+    let mut left: u64 = 18446744073709551614;
+    while 65536 < left {
+        let got = read_some(STDIN_FILENO, &mut block);
+        if is_failure(got) {
+            say_failed(state.ended, out);
+            return;
+        }
         let n = io::count(got, &block);
         if n == 0 {
-            break;
+            let kept = state.kept;
+            let size = stream::take_end(
+                table,
+                &line[..kept],
+                state.ended,
+                &mut work,
+                &mut reading,
+                &mut tokens,
+                out,
+            );
+            print(&out[..size]);
+            return;
         }
-        state = take_block(
+        state = print_block(
             table,
-            start,
             &block[..n],
             state,
             &mut line,
@@ -182,18 +228,9 @@ fn run(table: &[u8], start: usize, out: &mut [u8])
         if state.failed {
             return;
         }
-        turns -= 1;
+        left -= n as u64;
     }
-    finish(
-        table,
-        start,
-        state,
-        &line,
-        &mut work,
-        &mut reading,
-        &mut tokens,
-        out,
-    );
+    io::write_all(STDERR_FILENO, b"tracecut: the input is too long\n");
 }
 
 fn main() {
@@ -202,8 +239,8 @@ fn main() {
     let size = read_table(&mut table);
     let refused = report::report_table(&table[..size], &mut out);
     if 0 < refused {
-        io::write_all(STDOUT_FILENO, &out[..refused]);
+        print(&out[..refused]);
         return;
     }
-    run(&table[..size], last_record(size), &mut out);
+    run(&table[..size], &mut out);
 }

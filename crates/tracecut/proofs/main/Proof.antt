@@ -1,10 +1,10 @@
--- `tracecut::main` meets its contract: each part that is lent lies within its buffer. Assumes nothing.
+-- `tracecut::main` meets its contract. Assumes nothing.
 use Prim.Native.Nat.{ℕ}
 use native.Mathlib.Omega.{arith}
 use mathlib.Core.Path.{sym}
-use borrow.Author.Needs.{needs}
 use lib.ListN.{length-replicate}
 use lib.Seq.{length-take-le}
+use borrow.Author.Needs.{needs}
 use Rattle.tracecut.proofs.main.Statement.{statement}
 use Rattle.tracecut.proofs.main.Tie as tie
 
@@ -29,11 +29,11 @@ report-table-requires c κs = search needs
 array-share-prefix-out : tie.Need-array-share-prefix-out
 array-share-prefix-out c = search needs
 
-slice-aggregate-write-all : tie.Need-slice-aggregate-write-all
-slice-aggregate-write-all c = sym (length-take-le (c .before .before .before .report-table .result) (c .before .before .before .report-table .last .1 .0) (omega (arith, c .before .before .before .report-table .ensures .0, c .before .before .before .report-table .kept .1 .0, length-replicate {A = ℕ} 65536 0)))
+slice-aggregate-print : tie.Need-slice-aggregate-print
+slice-aggregate-print c = sym (length-take-le (c .before .before .before .report-table .result) (c .before .before .before .report-table .last .1 .0) (omega (arith, c .before .before .before .report-table .ensures .0, c .before .before .before .report-table .kept .1 .0, length-replicate {A = ℕ} 65536 0)))
 
-write-all-requires : tie.Need-write-all-requires
-write-all-requires c κs = search needs
+print-requires : tie.Need-print-requires
+print-requires c κs = search needs
 
 returns : tie.Need-returns
 returns c = search needs
@@ -43,9 +43,6 @@ array-share-prefix-table-2 c = search needs
 
 slice-aggregate-run : tie.Need-slice-aggregate-run
 slice-aggregate-run c = sym (length-take-le (c .before .before .before .before .before .before .before .read-table .result) (c .before .before .before .before .before .before .before .read-table .last .0) (c .before .before .before .before .before .before .before .read-table .ensures))
-
-last-record-requires : tie.Need-last-record-requires
-last-record-requires c κs = search needs
 
 slice-aggregate-run-2 : tie.Need-slice-aggregate-run-2
 slice-aggregate-run-2 c = search needs
@@ -67,12 +64,11 @@ main-spec =
     slice-aggregate-report-table-2
     report-table-requires
     array-share-prefix-out
-    slice-aggregate-write-all
-    write-all-requires
+    slice-aggregate-print
+    print-requires
     returns
     array-share-prefix-table-2
     slice-aggregate-run
-    last-record-requires
     slice-aggregate-run-2
     run-requires
     returns-2)
