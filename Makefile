@@ -1,14 +1,23 @@
-.PHONY: test outside lib demo example edges referee program soak bench tools
+.PHONY: test outside outside-tests tools lib demo example edges program referee-own referee-gate referee-stack referee-memory doubt soak bench
 
 CC = gcc
 CFLAGS = -O2 -Wall -Wextra -Werror -Iinclude
 LIB = target/staticlib/libtrace.a
 BUILD = target/outside
 REFEREE = $(BUILD)/referee/release/referee
+CARGO = cd tests/referee && TRACE_LIB_DIR=$(CURDIR)/target/staticlib CARGO_TARGET_DIR=$(CURDIR)/$(BUILD)/referee cargo
+
+# The tests outside Rattle, in their order. The gate counts each.
+OUTSIDE = tools lib example edges program referee-own referee-gate referee-stack referee-memory
 
 # The gate: proofs from nothing, must-fail edits, programs, and the tests outside Rattle.
 test:
 	@bash .ci/run
+
+outside: $(OUTSIDE)
+
+outside-tests:
+	@echo $(OUTSIDE)
 
 # The library for C: libtrace.a, with include/trace.h.
 lib:
@@ -18,13 +27,9 @@ lib:
 demo:
 	@bash tests/demo.sh
 
-# The tests outside Rattle, one after the other.
-outside: tools lib
-	@mkdir -p $(BUILD)
-	@$(MAKE) --no-print-directory example edges program referee
-
 # valgrind, where the machine has none.
 tools:
+	@mkdir -p $(BUILD)
 	@command -v valgrind >/dev/null || (apt-get update -q && apt-get install -y -q valgrind)
 
 # The example commissioning tool in C, compiled without a warning, and what it must print.
@@ -32,7 +37,6 @@ example:
 	@$(CC) $(CFLAGS) examples/commission.c $(LIB) -o $(BUILD)/commission
 	@$(BUILD)/commission >$(BUILD)/commission.out
 	@diff examples/commission.expected $(BUILD)/commission.out
-	@echo "example tool: ok"
 
 # Every refusal at its edge, through the calls for C.
 edges:
@@ -41,22 +45,37 @@ edges:
 
 # The program on hard inputs.
 program:
-	@[ -x target/bin/tracecut ] || rt check tracecut >/dev/null
+	@[ -x target/bin/tracecut ] || rt check tracecut
+	@$(CC) $(CFLAGS) tests/nonblock.c -o $(BUILD)/nonblock
+	@$(CC) $(CFLAGS) -shared -fPIC tests/faults.c -o $(BUILD)/faults.so -ldl
 	@bash tests/program.sh
 
-# The second implementation against the library.
-referee:
-	@start=$$(date +%s); cd tests/referee && \
-	export TRACE_LIB_DIR=$(CURDIR)/target/staticlib CARGO_TARGET_DIR=$(CURDIR)/$(BUILD)/referee && \
-	cargo test --release --quiet --lib && cargo build --release --quiet && cd ../.. && \
-	$(REFEREE) gate && $(REFEREE) stack && valgrind -q --error-exitcode=1 $(REFEREE) memcheck && \
-	echo "referee: $$(($$(date +%s) - start)) s"
+# The second implementation: its own tests, then against the library, on a small stack, and under memcheck.
+referee-own:
+	@$(CARGO) test --release --quiet --lib
+
+$(REFEREE): FORCE
+	@$(CARGO) build --release --quiet
+
+FORCE:
+
+referee-gate: $(REFEREE)
+	@$(REFEREE) gate
+
+referee-stack: $(REFEREE)
+	@$(REFEREE) stack
+
+referee-memory: $(REFEREE)
+	@valgrind -q --error-exitcode=1 $(REFEREE) memcheck
+
+# One must-fail edit, with what the prover says: make doubt EDIT=matcher/rest_not_looked_at
+doubt:
+	@bash tests/doubt.sh $(EDIT)
 
 # A longer run of the referee: make soak SECONDS=600 SEED=7
 SECONDS = 600
 SEED = 7
-soak: lib
-	@cd tests/referee && TRACE_LIB_DIR=$(CURDIR)/target/staticlib CARGO_TARGET_DIR=$(CURDIR)/$(BUILD)/referee cargo build --release --quiet
+soak: lib $(REFEREE)
 	@$(REFEREE) soak $(SECONDS) $(SEED)
 
 # Our read and tokens against other matchers: microseconds and ratios, in one run.

@@ -1,8 +1,8 @@
 #!/usr/bin/env bash
 # Cuts the sample trace of demo/ with its table and shows what the program prints. Run from the repository's root.
 set -euo pipefail
-echo "proving and building the program (the first time takes some minutes) .."
-rt check tracecut >/dev/null
+echo "proving and building the program, crate by crate; the first time takes some minutes"
+rt check tracecut | grep --line-buffered "^rt:"
 program=$(pwd)/target/bin/tracecut
 dir=$(mktemp -d)
 trap 'rm -rf "$dir"' EXIT
