@@ -199,7 +199,7 @@ fn fill_star(table: &[u8], line: &[u8], work: &mut [u8], d: usize, k: usize)
     let m = table.len() / 4;
     let to = row_at(m, d, k);
     let first = first_row(table, d, k);
-    work[to] = 1;
+    work[to] = 1; // no iteration
     join_cuts(work, m, d, to, first, k, 1);
 }
 
