@@ -23,38 +23,46 @@ outside-tests:
 lib:
 	@rt staticlib trace
 
+# What the tests outside Rattle stand on, made where it is missing.
+$(LIB):
+	@rt staticlib trace
+
+target/bin/tracecut:
+	@rt check tracecut
+
+$(BUILD):
+	@mkdir -p $@
+
 # Cuts a sample trace with a sample table and shows the tokens.
 demo:
 	@bash tests/demo.sh
 
 # valgrind, where the machine has none.
 tools:
-	@mkdir -p $(BUILD)
 	@command -v valgrind >/dev/null || (apt-get update -q && apt-get install -y -q valgrind)
 
 # The example commissioning tool in C, compiled without a warning, and what it must print.
-example:
+example: $(LIB) | $(BUILD)
 	@$(CC) $(CFLAGS) examples/commission.c $(LIB) -o $(BUILD)/commission
 	@$(BUILD)/commission >$(BUILD)/commission.out
 	@diff examples/commission.expected $(BUILD)/commission.out
 
 # Every refusal at its edge, through the calls for C.
-edges:
+edges: $(LIB) | $(BUILD)
 	@$(CC) $(CFLAGS) tests/edges.c $(LIB) -o $(BUILD)/edges
 	@$(BUILD)/edges
 
 # The program on hard inputs.
-program:
-	@[ -x target/bin/tracecut ] || rt check tracecut
+program: target/bin/tracecut | $(BUILD)
 	@$(CC) $(CFLAGS) tests/nonblock.c -o $(BUILD)/nonblock
 	@$(CC) $(CFLAGS) -shared -fPIC tests/faults.c -o $(BUILD)/faults.so -ldl
 	@bash tests/program.sh
 
 # The second implementation: its own tests, then against the library, on a small stack, and under memcheck.
-referee-own:
+referee-own: $(LIB)
 	@$(CARGO) test --release --quiet --lib
 
-$(REFEREE): FORCE
+$(REFEREE): $(LIB) FORCE
 	@$(CARGO) build --release --quiet
 
 FORCE:
