@@ -8,7 +8,7 @@ REFEREE = $(BUILD)/referee/release/referee
 CARGO = cd tests/referee && TRACE_LIB_DIR=$(CURDIR)/target/staticlib CARGO_TARGET_DIR=$(CURDIR)/$(BUILD)/referee cargo
 
 # The tests outside Rattle, in their order. The gate counts each.
-OUTSIDE = tools lib example edges program referee-own referee-gate referee-stack referee-memory
+OUTSIDE = tools lib example edges program demo referee-own referee-gate referee-stack referee-memory
 
 # The gate: proofs from nothing, must-fail edits, programs, and the tests outside Rattle.
 test:
