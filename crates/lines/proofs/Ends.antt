@@ -1,16 +1,14 @@
 -- Up to the next byte 10 no line ends, and it ends one.
 -- Assumes nothing.
-use Prim.Native.Nat.{ℕ, zero, suc, _+_, _-_, _≤_, _<_}
+use Prim.Native.Nat.{ℕ, suc, _+_, _-_, _<_}
 use mathlib.Core.Path.{_≡_, refl, sym, _∙_, ap}
-use mathlib.Core.Bool.{Bool, true, false}
 use mathlib.Core.List.{List, [], _∷_, _++_, append-assoc, append-nil}
 use native.Mathlib.Omega.{arith}
 use native.Mathlib.Numerals.{add-one}
 use borrow.Author.Tests.{ne-eqb}
-use lib.Dec.{eqb}
 use lib.ListN.{length, take, drop, getD, length-drop}
 use lib.Seq.{take-suc, take-add, getD-take, getD-drop, length-take-le}
-use Rattle.lines.specs.Lines.{pickLines, pickLine, endedLines, openLine}
+use Rattle.lines.specs.Lines.{endedLines, openLine}
 use Rattle.lines.specs.Ends.{NextEnd}
 use Rattle.lines.proofs.Splitting.{ended-append, open-append}
 

@@ -1,12 +1,12 @@
 -- Texts written one after another.
 -- Assumes nothing.
-use Prim.Native.Nat.{ℕ, suc, _+_, _≤_, _<_}
-use mathlib.Core.Path.{_≡_, refl, sym, _∙_, ap}
+use Prim.Native.Nat.{ℕ, _+_, _≤_, _<_}
+use mathlib.Core.Path.{_≡_, refl, _∙_, ap}
 use mathlib.Core.List.{List, [], _∷_, _++_}
 use native.Mathlib.Omega.{arith}
 use native.Mathlib.Numerals.{add-one}
 use lib.ListN.{length, take, drop, getD, set, length-append}
-use lib.Seq.{sets, length-sets, take-suc, take-suc-set, take-all, take-append-seam, length-take-le, take-length}
+use lib.Seq.{sets, length-sets, take-suc, take-length}
 use Rattle.reading.proofs.Writing.{sets-more, sets-front}
 use Rattle.report.specs.Writes.{Wrote}
 

@@ -8,7 +8,7 @@ use native.Mathlib.Omega.{arith}
 use lib.Dec.{eqb}
 use lib.ListN.{length, take, drop, length-append}
 use lib.Seq.{take-at, length-take-le}
-use Rattle.lines.specs.Lines.{pickLines, pickLine, linesOf, endedLines, openLine, lastLine, keptOf}
+use Rattle.lines.specs.Lines.{pickLines, pickLine, endedLines, openLine, lastLine, keptOf}
 use Rattle.lines.proofs.Splitting.{ended-append, open-append, ended-few, lines-split}
 use Rattle.lines.proofs.Keeping.{kept-more, kept-again}
 use Rattle.table.specs.Answers.{Said, gives, refuses}

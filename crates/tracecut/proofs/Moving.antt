@@ -8,7 +8,7 @@ use lib.ListN.{length, take, drop, length-drop}
 use lib.Seq.{length-take-le}
 use Rattle.stream.specs.Blocks.{Took}
 use Rattle.stream.specs.Buffers.{Buffers}
-use Rattle.stream.proofs.Whole.{took-few, took-some, took-within}
+use Rattle.stream.proofs.Whole.{took-few, took-some}
 
 -- the buffers at their sizes
 pub record Ready (line work reading tokens out : List ℕ) (kept : ℕ) : Type 0 where

@@ -1,9 +1,7 @@
 -- `lines::line_end` meets its contract. The loop's invariant: no byte 10 was passed; the measure is what is left of the block. Assumes nothing.
-use mathlib.Core.Logic.{⊎-elim}
 use Prim.Native.Nat.{ℕ, _≤_, _<_, _-_}
 use native.Mathlib.Omega.{arith}
 use mathlib.Core.Path.{_≡_}
-use borrow.Author.Needs.{needs}
 use borrow.Author.Count.{below-more}
 use lib.ListN.{length, getD}
 use Rattle.lines.proofs.line_end.Statement.{statement}

@@ -1,5 +1,4 @@
 -- `stream::end_line` meets its contract: the report stands at its place, put back with the part that was lent. Assumes nothing.
-use lib.ListN.{length}
 use Rattle.report.specs.Report.{lineReport}
 use native.Mathlib.Omega.{arith}
 use Rattle.stream.proofs.Taking.{wrote-part}

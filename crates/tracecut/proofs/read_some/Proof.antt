@@ -1,8 +1,7 @@
 -- `tracecut::read_some` meets its contract. Assumes nothing.
 use borrow.Author.Needs.{needs}
-use Prim.Native.Nat.{_-_, _≤_}
+use Prim.Native.Nat.{_-_}
 use mathlib.Core.Path.{_≡_}
-use native.Mathlib.Omega.{arith}
 use lib.ListN.{length}
 use Rattle.tracecut.proofs.read_some.Statement.{statement}
 use Rattle.tracecut.proofs.read_some.Tie as tie
