@@ -1,5 +1,5 @@
 #!/usr/bin/env bash
-# The program on hard inputs: what it writes to standard output and standard error is compared with what document 01 and README.md say. Run from
+# The program on hard inputs: what it writes to standard output and standard error is compared with what document 01 and docs/DECISIONS.md say. Run from
 # the repository's root after the program and, in target/outside, the helpers `nonblock` and `faults.so` are built.
 set -uo pipefail
 
