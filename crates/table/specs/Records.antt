@@ -4,11 +4,18 @@ use Prim.Native.Nat.{ℕ, _+_, _*_, _/_}
 use mathlib.Core.Bool.{Bool}
 use mathlib.Core.List.{List}
 use lib.Dec.{eqb}
-use lib.ListN.{length, getD}
+use lib.ListN.{length, getD, take}
 
 -- m, how many records the table has
 abbrev pub count : List ℕ → ℕ
 count t = length t / 4
+
+-- the table's records from 0 to k alone, and how many bytes they are
+abbrev pub sizeUpTo : ℕ → ℕ
+sizeUpTo k = 4 * (k + 1)
+
+abbrev pub upTo : List ℕ → ℕ → List ℕ
+upTo t k = take (sizeUpTo k) t
 
 -- the four bytes of record k
 abbrev pub kindAt : List ℕ → ℕ → ℕ

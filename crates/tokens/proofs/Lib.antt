@@ -4,3 +4,4 @@ pub mod Text
 pub mod Writing
 pub mod Walks
 pub mod Calls
+pub mod UpTo

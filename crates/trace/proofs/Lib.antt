@@ -3,4 +3,5 @@ pub mod Numbers
 pub mod Numbered
 pub mod Bounds
 pub mod Answers
+pub mod UpTo
 pub mod Promises

@@ -3,17 +3,18 @@
 -- these definitions say, for every input: none of them has a `requires`, and each is proved to end. The clause rivals of matcher::read and the
 -- clause precedence of ranking::compare say demand 3 of the answer and the buffer themselves, and those of the calls for C of the number.
 -- Assumes nothing.
-use Prim.Native.Nat.{ℕ, _*_, _≤_, _<_}
+use Prim.Native.Nat.{ℕ, _+_, _*_, _≤_, _<_}
 use mathlib.Core.Path.{_≡_}
 use mathlib.Core.List.{List, _++_, map}
 use mathlib.Core.Logic.{_↔_}
 use lib.ListN.{length, drop}
 use Rattle.regex.specs.Values.{Val, flat}
-use Rattle.table.specs.Records.{count}
+use Rattle.table.specs.Records.{count, upTo}
 use Rattle.table.specs.Faults.{Passes}
 use Rattle.table.specs.Answers.{Said, gives, refuses, number}
 use Rattle.table.specs.Checked.{checked}
 use Rattle.table.proofs.Checking.{check-passes, check-gives}
+use Rattle.table.proofs.UpTo.{up-to-passes}
 use Rattle.reading.specs.Fitting.{Fits}
 use Rattle.reading.specs.Calls.{spellSays, spellLeaves}
 use Rattle.reading.proofs.Spelling.{spell-writes}
@@ -26,13 +27,15 @@ use Rattle.ranking.specs.Answers.{compareSays}
 use Rattle.ranking.specs.OneLine.{OneLine, AnswersPrecedence}
 use Rattle.ranking.proofs.CompareRanks.{compared}
 use Rattle.ranking.proofs.Misfits.{misfits-first, misfits-second}
-use Rattle.matcher.specs.Calls.{readSays, readLeaves, PosixWritten}
+use Rattle.matcher.specs.Calls.{workSize, readSays, readLeaves, PosixWritten}
 use Rattle.matcher.specs.Demands.{Setting, NoneOutranks}
 use Rattle.matcher.proofs.Rivals.{read-outranks}
 use Rattle.trace.specs.Numbers.{Small}
+use Rattle.trace.specs.SameCalls.{SameCalls}
 use Rattle.trace.proofs.Answers.{read-writes, read-refused, spell-refused, tokens-refused}
 use Rattle.trace.proofs.Bounds.{small-checked, small-read, small-spell, small-compare, small-tokens}
 use Rattle.trace.proofs.Numbers.{same-number}
+use Rattle.trace.proofs.UpTo.{up-to-same, up-to-less}
 
 -- Demand 1: each call gives a result or one of document 01's refusals, for every table, start number, line, reading and length
 pub check-answers : (t : List ℕ) → Small (checked t)
@@ -129,3 +132,14 @@ pub compare-unfit-second :
     (t : List ℕ) (k : ℕ) (bs cs : List ℕ) → Passes t → k < count t
     → (compareSays t k bs cs ≡ refuses 12 1) ↔ (Fits t k bs × ¬ (Fits t k cs))
 compare-unfit-second = misfits-second
+
+-- Beyond the demands: a table that passes may be lent up to its start record alone. It passes too, with the start record as its last, each call
+-- says and leaves the same by it, and Read needs no more work area
+pub lent-passes : (t : List ℕ) (k : ℕ) → Passes t → k < count t → Passes (upTo t k) × (count (upTo t k) ≡ k + 1)
+lent-passes = up-to-passes
+
+pub lent-same : (t : List ℕ) (k : ℕ) → Passes t → k < count t → SameCalls t (upTo t k) k
+lent-same = up-to-same
+
+pub lent-less : (t : List ℕ) (k n : ℕ) → Passes t → k < count t → workSize (count (upTo t k)) n ≤ workSize (count t) n
+lent-less = up-to-less
