@@ -38,14 +38,14 @@ static ssize_t length_after(char fault, size_t n)
 
 ssize_t read(int fd, void *buffer, size_t n)
 {
-    ssize_t (*next)(int, void *, size_t) = (ssize_t (*)(int, void *, size_t))dlsym(RTLD_NEXT, "read");
+    ssize_t (*next)(int, void *, size_t) = __extension__(ssize_t (*)(int, void *, size_t))dlsym(RTLD_NEXT, "read");
     ssize_t length = length_after(next_fault(fd == 0 ? &input : &file), n);
     return length < 0 ? -1 : next(fd, buffer, (size_t)length);
 }
 
 ssize_t write(int fd, const void *buffer, size_t n)
 {
-    ssize_t (*next)(int, const void *, size_t) = (ssize_t (*)(int, const void *, size_t))dlsym(RTLD_NEXT, "write");
+    ssize_t (*next)(int, const void *, size_t) = __extension__(ssize_t (*)(int, const void *, size_t))dlsym(RTLD_NEXT, "write");
     ssize_t length = fd == 1 ? length_after(next_fault(&output), n) : (ssize_t)n;
     return length < 0 ? -1 : next(fd, buffer, (size_t)length);
 }

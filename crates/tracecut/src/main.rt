@@ -102,11 +102,24 @@ fn read_file(fd: i32, buffer: &mut [u8]) -> usize
     done
 }
 
-// Reads rules.tab and returns its size, at most the buffer's. A missing file counts as 0 bytes.
+// Opens rules.tab, and answers a descriptor, or -1. Where it is not just missing, standard error says why.
+fn open_table() -> i32 {
+    let fd = os::open_read(b"rules.tab");
+    if 0 <= fd {
+        return fd;
+    }
+    if os::errno() == libc::ENOENT {
+        return fd;
+    }
+    os::fail(b"tracecut: opening rules.tab failed");
+    fd
+}
+
+// Reads rules.tab and returns its size, at most the buffer's. One that is missing or cannot be opened counts as 0 bytes.
 fn read_table(table: &mut [u8]) -> usize
     ensures { λ r. ⌜ r ≤ length (now (table .exit)) ⌝ }
 {
-    let fd = os::open_read(b"rules.tab");
+    let fd = open_table();
     if fd < 0 {
         return 0;
     }
