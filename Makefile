@@ -1,34 +1,97 @@
-.PHONY: test outside outside-tests tools lib demo example edges program referee-own referee-gate referee-stack referee-memory doubt soak bench
+.PHONY: all lib shared install uninstall install-files test outside outside-tests lacks tools example edges header builder program demo \
+        installed loaded manual pages referee-own referee-gate referee-stack referee-memory doubt soak bench
 
+SHELL = bash
+.SHELLFLAGS = -o pipefail -c
 CC = gcc
-CFLAGS = -O2 -Wall -Wextra -Werror -Iinclude
-LIB = target/staticlib/libtrace.a
+CXX = g++
+WARNINGS = -Wall -Wextra -Wpedantic -Werror
+CFLAGS = -O2 $(WARNINGS) -Iinclude
+SOURCES := crates.txt $(shell find crates -name '*.rt' -o -name '*.antt')
 BUILD = target/outside
 REFEREE = $(BUILD)/referee/release/referee
 CARGO = cd tests/referee && TRACE_LIB_DIR=$(CURDIR)/target/staticlib CARGO_TARGET_DIR=$(CURDIR)/$(BUILD)/referee cargo
 
-# The tests outside Rattle, in their order. The gate counts each.
-OUTSIDE = tools lib example edges program demo referee-own referee-gate referee-stack referee-memory
+# The version stands in include/trace.h alone.
+VERSION_PART = $(shell sed -n 's/^\#define TRACE_VERSION_$(1) //p' include/trace.h)
+MAJOR := $(call VERSION_PART,MAJOR)
+VERSION := $(MAJOR).$(call VERSION_PART,MINOR).$(call VERSION_PART,PATCH)
+
+LIB = target/staticlib/libtrace.a
+SHARED = target/shared/libtrace.so.$(VERSION)
+PROGRAM = target/bin/tracecut
+
+# What is delivered: the library for C, with include/trace.h, as an archive and as a shared library, and the program.
+all: $(LIB) $(SHARED) $(PROGRAM)
+
+lib: $(LIB)
+
+shared: $(SHARED)
+
+$(LIB): $(SOURCES)
+	@rt staticlib trace 2>&1 | bash tests/quiet.sh
+
+$(SHARED): $(LIB) packaging/libtrace.map
+	@mkdir -p $(@D)
+	@$(CC) -shared -Wl,-soname,libtrace.so.$(MAJOR) -Wl,--version-script=packaging/libtrace.map -Wl,-z,defs \
+	    -Wl,--whole-archive $(LIB) -Wl,--no-whole-archive -o $@
+
+$(PROGRAM): $(SOURCES)
+	@rt check tracecut 2>&1 | bash tests/quiet.sh
+	@touch $@
+
+# make install PREFIX=/usr/local DESTDIR=: the files below, under PREFIX, or for a package under DESTDIR and PREFIX.
+PREFIX = /usr/local
+ROOT = $(DESTDIR)$(PREFIX)
+MANUAL = $(ROOT)/share/man
+FUNCTIONS := $(shell grep -oE '\btrace_[a-z_]+' include/trace.h | sort -u)
+INSTALL_FILES = bin/tracecut include/trace.h lib/libtrace.a lib/libtrace.so lib/libtrace.so.$(MAJOR) lib/libtrace.so.$(VERSION) \
+    lib/pkgconfig/trace.pc share/doc/trace/FORMATS.md share/man/man1/tracecut.1 share/man/man3/libtrace.3 $(FUNCTIONS:%=share/man/man3/%.3)
+FILLED = sed -e 's,@VERSION@,$(VERSION),g' -e 's,@PREFIX@,$(PREFIX),g'
+
+install: all
+	@install -d $(sort $(dir $(INSTALL_FILES:%=$(ROOT)/%)))
+	@install -m 755 $(PROGRAM) $(ROOT)/bin
+	@install -m 644 include/trace.h $(ROOT)/include
+	@install -m 644 $(LIB) $(SHARED) $(ROOT)/lib
+	@install -m 644 docs/FORMATS.md $(ROOT)/share/doc/trace
+	@ln -sf libtrace.so.$(VERSION) $(ROOT)/lib/libtrace.so.$(MAJOR)
+	@ln -sf libtrace.so.$(MAJOR) $(ROOT)/lib/libtrace.so
+	@$(FILLED) packaging/trace.pc.in >$(ROOT)/lib/pkgconfig/trace.pc
+	@$(FILLED) man/tracecut.1.in >$(MANUAL)/man1/tracecut.1
+	@sed 's,\\,\\e,g' examples/first.c | $(FILLED) -e '/^@EXAMPLE@$$/{r /dev/stdin' -e 'd}' man/libtrace.3.in >$(MANUAL)/man3/libtrace.3
+	@for name in $(FUNCTIONS); do echo '.so man3/libtrace.3' >$(MANUAL)/man3/$$name.3; done
+
+uninstall:
+	@rm -f $(INSTALL_FILES:%=$(ROOT)/%)
+
+install-files:
+	@printf '%s\n' $(INSTALL_FILES)
 
 # The gate: proofs from nothing, must-fail edits, programs, and the tests outside Rattle.
 test:
 	@bash .ci/run
+
+# The tests outside Rattle, in their order. The gate counts each, and leaves out one that needs a command which is not there and cannot be
+# installed.
+OUTSIDE = lib example edges header builder program demo installed loaded manual pages referee-own referee-gate referee-stack referee-memory
+NEEDS_header = $(CXX)
+NEEDS_installed = pkg-config
+NEEDS_manual = man
+NEEDS_pages = pkg-config
+NEEDS_referee-memory = valgrind
 
 outside: $(OUTSIDE)
 
 outside-tests:
 	@echo $(OUTSIDE)
 
-# The library for C: libtrace.a, with include/trace.h.
-lib:
-	@rt staticlib trace
+lacks:
+	@for command in $(NEEDS_$(TEST)); do command -v $$command >/dev/null || echo $$command; done
 
-# What the tests outside Rattle stand on, made where it is missing.
-$(LIB):
-	@rt staticlib trace
-
-target/bin/tracecut:
-	@rt check tracecut
+# The commands that the tests need beyond gcc and cargo, from Debian's packages where they are missing.
+tools:
+	@bash tests/tools.sh g++ pkg-config man-db:man valgrind
 
 $(BUILD):
 	@mkdir -p $@
@@ -37,26 +100,56 @@ $(BUILD):
 demo:
 	@bash tests/demo.sh
 
-# valgrind, where the machine has none.
-tools:
-	@command -v valgrind >/dev/null || (apt-get update -q && apt-get install -y -q valgrind)
-
 # The example commissioning tool in C, compiled without a warning, and what it must print.
 example: $(LIB) | $(BUILD)
-	@$(CC) $(CFLAGS) examples/commission.c $(LIB) -o $(BUILD)/commission
-	@$(BUILD)/commission >$(BUILD)/commission.out
-	@diff examples/commission.expected $(BUILD)/commission.out
+	@$(CC) -std=c99 $(CFLAGS) examples/commission.c $(LIB) -o $(BUILD)/commission
+	@bash tests/example.sh $(BUILD)/commission
 
 # Every refusal at its edge, through the calls for C.
 edges: $(LIB) | $(BUILD)
 	@$(CC) $(CFLAGS) tests/edges.c $(LIB) -o $(BUILD)/edges
 	@$(BUILD)/edges
 
+# The header by itself, and its functions, in C and in C++, each in its oldest and its newest form.
+header: $(LIB) | $(BUILD)
+	@for form in c99 c11 gnu17; do \
+	    $(CC) -std=$$form $(WARNINGS) -fsyntax-only -x c include/trace.h && \
+	    $(CC) -std=$$form $(CFLAGS) -x c tests/header.c -x none $(LIB) -o $(BUILD)/header && $(BUILD)/header || exit 1; done
+	@for form in c++98 c++11 gnu++20; do \
+	    $(CXX) -std=$$form $(WARNINGS) -fsyntax-only -x c++ include/trace.h && \
+	    $(CXX) -std=$$form $(CFLAGS) -x c++ tests/header.c -x none $(LIB) -o $(BUILD)/header && $(BUILD)/header || exit 1; done
+
+# The demo's table builder.
+builder:
+	@bash tests/builder.sh
+
 # The program on hard inputs.
-program: target/bin/tracecut | $(BUILD)
+program: $(PROGRAM) | $(BUILD)
 	@$(CC) $(CFLAGS) tests/nonblock.c -o $(BUILD)/nonblock
 	@$(CC) $(CFLAGS) -shared -fPIC tests/faults.c -o $(BUILD)/faults.so -ldl
 	@bash tests/program.sh
+
+# An installation in an empty folder, used by pkg-config alone. The tests after it use one too.
+INSTALLED = $(CURDIR)/$(BUILD)/installed
+installed: all | $(BUILD)
+	@bash tests/installed.sh $(INSTALLED)
+
+.PHONY: $(INSTALLED)
+$(INSTALLED): all
+	@$(MAKE) --no-print-directory install PREFIX=$@
+
+# The shared library: the names it exports, and its calls from a program that opens it at run time.
+loaded: $(INSTALLED) | $(BUILD)
+	@$(CC) $(CFLAGS) tests/loaded.c -o $(BUILD)/loaded -ldl
+	@bash tests/loaded.sh $(INSTALLED) $(BUILD)/loaded
+
+# The manual pages, without a warning.
+manual: all
+	@bash tests/manual.sh
+
+# What README.md and the other pages show and name.
+pages: $(INSTALLED)
+	@bash tests/pages.sh $(INSTALLED)
 
 # The second implementation: its own tests, then against the library, on a small stack, and under memcheck.
 referee-own: $(LIB)

@@ -1,84 +1,151 @@
 /*
- * An example commissioning tool: reads one line by a table, shows its tokens, spells the reading back and compares it with a rival.
- * It uses all five calls of libtrace.a. Exit status 0 if every answer is as it should be.
+ * An example commissioning tool: reads a trace from standard input line by line and shows each line's tokens by name.
+ *
+ *     cc commission.c $(pkg-config --cflags --libs trace) -o commission
+ *     ./commission <trace.txt
+ *
+ * It uses all five calls. Exit status: 0 if every line was read, 1 if one was refused, 2 if the tool itself could not go on.
  */
+#define _POSIX_C_SOURCE 200809L /* getline */
 #include <stdio.h>
+#include <stdlib.h>
 #include <string.h>
 
-#include "trace.h"
+#include <trace.h>
 
-/* (a + ab + bc)*, start 9: the tokens 1, 2 and 3 are a, ab and bc. */
+/* The tokens of a line such as "12:04 lift 29". */
+enum { TIME = 1, SENSOR, TEMPERATURE };
+static const char *const names[] = {"", "time", "sensor", "temperature"};
+
+/* The rule, a record a line: kind, a, b, tag. Children stand above their parent, and each digit has a record of its own. */
 static const uint8_t table[] = {
-    TRACE_RANGE, 'a', 'a', 1, TRACE_RANGE, 'a', 'a', 0, TRACE_RANGE, 'b', 'b', 0, TRACE_SEQ, 1, 2, 2, TRACE_RANGE, 'b', 'b', 0,
-    TRACE_RANGE, 'c', 'c', 0, TRACE_SEQ, 4, 5, 3, TRACE_OR, 0, 3, 0, TRACE_OR, 7, 6, 0, TRACE_STAR, 8, 0, 0,
+    TRACE_RANGE, '0', '9', 0,         /*  0: digit */
+    TRACE_RANGE, '0', '9', 0,         /*  1: digit */
+    TRACE_SEQ, 0, 1, 0,               /*  2: hours, records 0 and 1 */
+    TRACE_RANGE, ':', ':', 0,         /*  3: colon */
+    TRACE_SEQ, 2, 3, 0,               /*  4: hours and colon */
+    TRACE_RANGE, '0', '9', 0,         /*  5: digit */
+    TRACE_RANGE, '0', '9', 0,         /*  6: digit */
+    TRACE_SEQ, 5, 6, 0,               /*  7: minutes */
+    TRACE_SEQ, 4, 7, TIME,            /*  8: hours, colon and minutes: a token */
+    TRACE_RANGE, ' ', ' ', 0,         /*  9: space */
+    TRACE_SEQ, 8, 9, 0,               /* 10: time and space */
+    TRACE_RANGE, 'a', 'z', 0,         /* 11: small letter */
+    TRACE_STAR, 11, 0, SENSOR,        /* 12: small letters: a token */
+    TRACE_SEQ, 10, 12, 0,             /* 13: time, space and sensor */
+    TRACE_RANGE, ' ', ' ', 0,         /* 14: space */
+    TRACE_SEQ, 13, 14, 0,             /* 15: time, space, sensor and space */
+    TRACE_RANGE, '0', '9', 0,         /* 16: digit */
+    TRACE_RANGE, '0', '9', 0,         /* 17: digit */
+    TRACE_STAR, 17, 0, 0,             /* 18: more digits, or none */
+    TRACE_SEQ, 16, 18, TEMPERATURE,   /* 19: at least one digit: a token */
+    TRACE_SEQ, 15, 19, 0,             /* 20: the whole line */
 };
-static const uint64_t start = 9;
+enum { RECORDS = sizeof table / TRACE_TABLE_RECORD, START = RECORDS - 1 };
 
-/* Room for the longest line of this tool. */
-enum { LINE = 16, RECORDS = sizeof table / 4 };
-static uint8_t work[RECORDS * (LINE + 1) * (LINE + 2) / 2];
-static uint8_t reading[2 * RECORDS * LINE];
-static uint8_t tokens[3 * RECORDS * LINE];
-static uint8_t line_back[TRACE_MAX_LINE];
+/* Room for every line that can be read, and the reading of the line before, 0 bytes long before the first. */
+typedef struct { uint8_t *bytes; size_t room, length; } Buffer;
+typedef struct { Buffer work, reading, tokens, before; } Buffers;
 
-static void show_refusal(const char *call, uint64_t answer)
+static Buffer buffer_of(size_t room)
 {
-    printf("%s refused %u detail %u\n", call, trace_refusal(answer), trace_detail(answer));
+    Buffer buffer = {malloc(room), room, 0};
+    if (buffer.bytes == NULL) {
+        perror("commission");
+        exit(2);
+    }
+    return buffer;
 }
 
-/* Reads the line and shows its tokens; returns the reading's length in bytes, or 0. */
-static size_t show_line(const char *text)
+/* Says a refusal in words, where there is one. The details of 2 to 6 and 11 belong to the message. */
+static int is_refused(uint64_t answer)
 {
-    size_t n = strlen(text);
-    uint64_t answer = trace_read(table, sizeof table, start, (const uint8_t *)text, n, work, sizeof work, reading, sizeof reading);
-    if (trace_is_refused(answer)) {
-        show_refusal("read", answer);
+    uint32_t refusal = trace_refusal(answer);
+    if (!trace_is_refused(answer))
+        return 0;
+    printf("refused %u: %s", (unsigned)refusal, trace_refusal_text(refusal));
+    if (refusal >= TRACE_REFUSED_KIND && refusal <= TRACE_REFUSED_NAMED)
+        printf(" (record %u)", (unsigned)trace_detail(answer));
+    if (refusal == TRACE_REFUSED_BUFFER)
+        printf(" (it needs %u bytes)", (unsigned)trace_detail(answer));
+    printf("\n");
+    return 1;
+}
+
+/* What was read is the line that was sent, byte for byte. */
+static int spells(Buffer reading, const uint8_t *line, size_t length)
+{
+    uint8_t back[TRACE_MAX_LINE];
+    uint64_t answer = trace_spell(table, sizeof table, START, reading.bytes, reading.length, back, sizeof back);
+    return answer == length && memcmp(back, line, length) == 0;
+}
+
+/* The line was sent twice: the two readings are the same. Readings of different lines are refused. */
+static int repeats(const Buffers *buffers)
+{
+    Buffer reading = buffers->reading, before = buffers->before;
+    return trace_compare(table, sizeof table, START, reading.bytes, reading.length, before.bytes, before.length) == 0;
+}
+
+static void show_tokens(const uint8_t *line, const uint8_t *tokens, size_t count)
+{
+    printf("%zu tokens\n", count);
+    for (const uint8_t *token = tokens; token < tokens + TRACE_TOKEN * count; token += TRACE_TOKEN)
+        printf("  %s '%.*s'\n", names[token[0]], (int)token[2], (const char *)line + token[1]);
+}
+
+/* Reads a line and shows its tokens, or the refusal; says whether it was read. */
+static int show_line(Buffers *buffers, const uint8_t *line, size_t length)
+{
+    Buffer *reading = &buffers->reading, tokens = buffers->tokens, work = buffers->work;
+    uint64_t answer = trace_read(table, sizeof table, START, line, length, work.bytes, work.room, reading->bytes, reading->room);
+    if (is_refused(answer))
+        return 0;
+    reading->length = TRACE_READING_RECORD * (size_t)answer;
+    if (!spells(*reading, line, length)) {
+        printf("the reading does not spell the line\n");
         return 0;
     }
-    size_t length = 2 * (size_t)answer;
-    answer = trace_tokens(table, sizeof table, start, reading, length, tokens, sizeof tokens);
-    if (trace_is_refused(answer)) {
-        show_refusal("tokens", answer);
-        return 0;
+    if (repeats(buffers)) {
+        printf("the same line again\n");
+        return 1;
     }
-    printf("%s: %u tokens\n", text, (unsigned)answer);
-    for (size_t i = 0; i < answer; i++)
-        printf("  %u: %.*s\n", tokens[3 * i], (int)tokens[3 * i + 2], text + tokens[3 * i + 1]);
-    return length;
+    answer = trace_tokens(table, sizeof table, START, reading->bytes, reading->length, tokens.bytes, tokens.room);
+    if (is_refused(answer))
+        return 0;
+    show_tokens(line, tokens.bytes, (size_t)answer);
+    Buffer older = buffers->before;
+    buffers->before = *reading;
+    *reading = older;
+    return 1;
 }
 
 int main(void)
 {
-    uint64_t answer = trace_check(table, sizeof table);
-    if (trace_is_refused(answer)) {
-        show_refusal("check", answer);
-        return 1;
+    if (is_refused(trace_check(table, sizeof table)))
+        return 2;
+    size_t readings = trace_reading_size(RECORDS, TRACE_MAX_LINE);
+    Buffers buffers = {buffer_of(trace_work_size(RECORDS, TRACE_MAX_LINE)), buffer_of(readings),
+                       buffer_of(trace_tokens_size(RECORDS, TRACE_MAX_LINE)), buffer_of(readings)};
+
+    char *line = NULL;
+    size_t room = 0;
+    ssize_t got;
+    int status = 0;
+    for (unsigned long number = 1; (got = getline(&line, &room, stdin)) > 0; number++) {
+        size_t length = line[got - 1] == '\n' ? (size_t)got - 1 : (size_t)got;
+        printf("line %lu: ", number);
+        if (!show_line(&buffers, (const uint8_t *)line, length))
+            status = 1;
     }
-    printf("table of %u records\n", (unsigned)answer);
-
-    show_line("b");
-    size_t length = show_line("abc");
-    if (length == 0)
-        return 1;
-
-    answer = trace_spell(table, sizeof table, start, reading, length, line_back, sizeof line_back);
-    if (trace_is_refused(answer)) {
-        show_refusal("spell", answer);
-        return 1;
+    if (ferror(stdin) || fflush(stdout) != 0) {
+        perror("commission");
+        status = 2;
     }
-    printf("spelled back: %.*s\n", (int)answer, (const char *)line_back);
-
-    /* A buffer that is too short: the detail says how many bytes are needed. */
-    answer = trace_spell(table, sizeof table, start, reading, length, line_back, 2);
-    show_refusal("spell into 2 bytes", answer);
-
-    /* The reading is the same as itself; a damaged one does not fit. */
-    uint8_t damaged[sizeof reading];
-    memcpy(damaged, reading, length);
-    damaged[length - 1] = 'x';
-    answer = trace_compare(table, sizeof table, start, reading, length, reading, length);
-    printf("compare with itself: %u\n", (unsigned)answer);
-    answer = trace_compare(table, sizeof table, start, reading, length, damaged, length);
-    show_refusal("compare with a damaged one", answer);
-    return 0;
+    free(line);
+    free(buffers.work.bytes);
+    free(buffers.reading.bytes);
+    free(buffers.tokens.bytes);
+    free(buffers.before.bytes);
+    return status;
 }

@@ -9,7 +9,11 @@
  * is taken, and the call comes to an end with its result or a refusal. The calls keep no state and allocate nothing; several threads may
  * call at once on buffers of their own. A call needs less than 1 MiB of stack.
  *
- * Link with libtrace.a (make lib).
+ * The functions defined here are in no library: they are compiled into the caller, C99 or C++. The five calls are in libtrace.a and
+ * libtrace.so:
+ *     cc tool.c $(pkg-config --cflags --libs trace)
+ *
+ * docs/FORMATS.md has the rule by which a line is cut, the bytes of a reading, and the order of readings.
  */
 #ifndef TRACE_H
 #define TRACE_H
@@ -21,11 +25,34 @@
 extern "C" {
 #endif
 
-/* Limits. */
-#define TRACE_MAX_RECORDS 255     /* records of a table, 4 bytes each */
-#define TRACE_MAX_LINE 255        /* bytes of a line */
+/* The version, as numbers and as text ("1.0.0"). Another major number says that a format or a call's result has changed. */
+#define TRACE_VERSION_MAJOR 1
+#define TRACE_VERSION_MINOR 0
+#define TRACE_VERSION_PATCH 0
+#define TRACE_TEXT_OF(macro) TRACE_TEXT(macro)
+#define TRACE_TEXT(word) #word
+#define TRACE_VERSION TRACE_TEXT_OF(TRACE_VERSION_MAJOR) "." TRACE_TEXT_OF(TRACE_VERSION_MINOR) "." TRACE_TEXT_OF(TRACE_VERSION_PATCH)
 
-/* Kinds of a table record: kind, a, b, tag. Or, Seq and Star name records by number; a child's number is below its parent's. */
+/* Limits, and the bytes of one record of a table, one record of a reading, and one token. */
+#define TRACE_MAX_RECORDS 255     /* records of a table */
+#define TRACE_MAX_LINE 255        /* bytes of a line */
+#define TRACE_TABLE_RECORD 4      /* kind, a, b, tag */
+#define TRACE_READING_RECORD 2    /* kind, argument */
+#define TRACE_TOKEN 3             /* tag, offset in the line, length */
+
+/*
+ * A table: records of kind, a, b and tag, numbered from 0.
+ *
+ * Or, Seq and Star name other records, their children, by number. A child's number is below its parent's, and in the whole table no record
+ * is named twice: nothing is shared, so a rule with two digits has two records for them.
+ *
+ * The tag is the name, 1 to 255, of a token; 0 is no tag. Any record may have one. An outer tag hides those inside it: a token is one whole
+ * part, and trace_tokens does not look for others in it.
+ *
+ * One table may hold several rules, each with a start number of its own: records that the start record does not reach are allowed. A table
+ * that trace_check passes may be lent up to its start record alone, as 4 * (start + 1) bytes. It passes too, the readings and tokens are the
+ * same, and trace_read takes less time and a work area for start + 1 records.
+ */
 #define TRACE_NOTHING 0           /* spells no line */
 #define TRACE_EMPTY 1             /* spells the empty line */
 #define TRACE_RANGE 2             /* one byte from a to b */
@@ -42,7 +69,7 @@ extern "C" {
 #define TRACE_REFUSED_UNUSED 3    /* an unused a or b is not 0 */
 #define TRACE_REFUSED_BOUNDS 4    /* Range with a above b */
 #define TRACE_REFUSED_CHILD 5     /* child number not below its parent's */
-#define TRACE_REFUSED_NAMED 6     /* a child named twice */
+#define TRACE_REFUSED_NAMED 6     /* a child named twice, anywhere in the table */
 /* The line's. */
 #define TRACE_REFUSED_LINE 7      /* line over 255 bytes */
 #define TRACE_REFUSED_NO_READING 8 /* the start record does not spell the line */
@@ -60,14 +87,42 @@ static inline int trace_is_refused(uint64_t answer) { return (answer >> 32) != 0
 static inline uint32_t trace_refusal(uint64_t answer) { return (uint32_t)(answer >> 32); }
 static inline uint32_t trace_detail(uint64_t answer) { return (uint32_t)answer; }
 
-/* The work area that trace_read needs, in bytes, for a table of so many records and a line of so many bytes. */
+/* What a refusal means, in words for a message; of a number that is no refusal's it says so. */
+static inline const char *trace_refusal_text(uint32_t refusal)
+{
+    switch (refusal) {
+    case 0: return "not refused";
+    case TRACE_REFUSED_SIZE: return "the table is empty, over 1,020 bytes long, or not made of whole records of 4 bytes";
+    case TRACE_REFUSED_KIND: return "a record of the table has a kind above 5";
+    case TRACE_REFUSED_UNUSED: return "a record of the table has an a or b that its kind does not use and that is not 0";
+    case TRACE_REFUSED_BOUNDS: return "a Range record of the table has its lowest byte above its highest";
+    case TRACE_REFUSED_CHILD: return "a record of the table names a child whose number is not below its own";
+    case TRACE_REFUSED_NAMED: return "a record of the table names a child that is named already";
+    case TRACE_REFUSED_LINE: return "the line is over 255 bytes long";
+    case TRACE_REFUSED_NO_READING: return "the start record does not spell the line";
+    case TRACE_REFUSED_START: return "the table has no record with the start number";
+    case TRACE_REFUSED_WORK: return "the work area is too short";
+    case TRACE_REFUSED_BUFFER: return "the output buffer is too short";
+    case TRACE_REFUSED_UNFIT: return "the bytes are no reading of the start record";
+    case TRACE_REFUSED_LONG: return "the reading spells over 255 bytes";
+    case TRACE_REFUSED_DIFFER: return "the two readings spell different lines";
+    default: return "no refusal has this number";
+    }
+}
+
+/*
+ * The sizes below are in bytes, for a table of so many records and a line of so many bytes, at most TRACE_MAX_LINE: a longer line is refused
+ * before the work area is looked at.
+ */
+
+/* The work area that trace_read needs. */
 static inline size_t trace_work_size(size_t records, size_t line_len) { return records * (line_len + 1) * (line_len + 2) / 2; }
 
-/* A reading buffer that is always long enough, in bytes. */
-static inline size_t trace_reading_size(size_t records, size_t line_len) { return 2 * records * (line_len ? line_len : 1); }
+/* A reading buffer that is always long enough. */
+static inline size_t trace_reading_size(size_t records, size_t line_len) { return TRACE_READING_RECORD * records * (line_len ? line_len : 1); }
 
-/* A token buffer that is always long enough, in bytes. */
-static inline size_t trace_tokens_size(size_t records, size_t line_len) { return 3 * records * (line_len ? line_len : 1); }
+/* A token buffer that is always long enough. */
+static inline size_t trace_tokens_size(size_t records, size_t line_len) { return TRACE_TOKEN * records * (line_len ? line_len : 1); }
 
 /*
  * Checks a table. Result: its number of records. Refusals: 1 to 6; records are looked at upward, and the first fault is the answer.

@@ -2,7 +2,7 @@
 # Cuts the sample trace of demo/ with its table and shows what the program prints. Run from the repository's root.
 set -euo pipefail
 echo "proving and building the program, crate by crate; the first time takes some minutes"
-rt check tracecut | grep --line-buffered "^rt:"
+rt check tracecut 2>&1 | bash tests/quiet.sh
 program=$(pwd)/target/bin/tracecut
 dir=$(mktemp -d)
 trap 'rm -rf "$dir"' EXIT

@@ -74,6 +74,14 @@ static void read(const char *name, Bytes table, uint64_t start, Bytes line, size
         }
 }
 
+/* Read, then the tokens of what it wrote. */
+static void cut(const char *name, Bytes table, uint64_t start, Bytes line, uint64_t want, Bytes front)
+{
+    uint8_t work[1024], reading[1024];
+    uint64_t records = trace_read(table.at, table.length, start, line.at, line.length, work, sizeof work, reading, sizeof reading);
+    tokens(name, table, start, (Bytes){reading, trace_is_refused(records) ? 0 : TRACE_READING_RECORD * records}, 1024, want, front);
+}
+
 /*
  * Every choice of empty arguments, for each call: a null pointer with length 0 gets the answer of a valid pointer with length 0, and the
  * buffer is left the same. The bits of `empties`: 0 the table, 1 the line or the reading, 2 the work area or the second reading, 3 the
@@ -134,6 +142,32 @@ int main(void)
     read("J", t4, 0, empty, 1, 2, 1, void_, 0);
     spell("J", t4, 0, void_, 0, 0, empty);
     tokens("J", t4, 0, void_, 3, 1, BYTES(7, 0, 0));
+
+    /* the worked example of docs/FORMATS.md; its second part is F and G */
+    Bytes degrees = BYTES(2, '0', '9', 0, 5, 0, 0, 1, 2, 'C', 'C', 0, 4, 1, 2, 0), line29 = BYTES('2', '9', 'C');
+    Bytes reading29 = BYTES(4, 0, 5, 2, 1, '2', 1, '9', 1, 'C');
+    expect("29C, check", trace_check(degrees.at, degrees.length), 4);
+    read("29C", degrees, 3, line29, 40, 10, 5, reading29, 0);
+    read("29C, work area of 39", degrees, 3, line29, 39, 10, REFUSED(10, 0), empty, 1);
+    read("29C, buffer of 9", degrees, 3, line29, 40, 9, REFUSED(11, 10), empty, 0);
+    tokens("29C", degrees, 3, reading29, 3, 1, BYTES(1, 0, 2));
+    spell("29C", degrees, 3, reading29, 3, 3, line29);
+    read("C29", degrees, 3, BYTES('C', '2', '9'), 40, 10, REFUSED(8, 0), empty, 0);
+
+    /* the page's two ways to nest (a|ab)(c|bcd)(d*): the tokens 1, 2 and 3 are the three parts */
+#define PARTS 2, 'a', 'a', 0, 2, 'a', 'a', 0, 2, 'b', 'b', 0, 4, 1, 2, 0, 3, 0, 3, 1, 2, 'c', 'c', 0, 2, 'b', 'b', 0, 2, 'c', 'c', 0, 2, 'd', 'd', 0, \
+        4, 6, 7, 0, 4, 9, 8, 0, 3, 5, 10, 2, 2, 'd', 'd', 0, 5, 12, 0, 3
+    cut("A(BC)", BYTES(PARTS, 4, 11, 13, 0, 4, 4, 14, 0), 15, BYTES('a', 'b', 'c', 'd'), 3, BYTES(1, 0, 2, 2, 2, 1, 3, 3, 1));
+    cut("(AB)C", BYTES(PARTS, 4, 4, 11, 0, 4, 14, 13, 0), 15, BYTES('a', 'b', 'c', 'd'), 3, BYTES(1, 0, 1, 2, 1, 3, 3, 4, 0));
+#undef PARTS
+
+    /* a table lent up to its start record, and the whole one: 29C's, and behind it more records */
+    Bytes more = BYTES(2, '0', '9', 0, 5, 0, 0, 1, 2, 'C', 'C', 0, 4, 1, 2, 0, 2, 'x', 'x', 9, 3, 3, 4, 8);
+    read("29C, more records", more, 3, line29, 60, 10, 5, reading29, 0);
+    read("29C, more records and the work area of 4", more, 3, line29, 40, 10, REFUSED(10, 0), empty, 1);
+    tokens("29C, more records", more, 3, reading29, 3, 1, BYTES(1, 0, 2));
+    spell("29C, more records", more, 3, reading29, 3, 3, line29);
+    compare("29C, more records", more, 3, reading29, reading29, 0);
 
     /* 1 to 6 and 9, before everything else */
     spell("a refused table", bad, 9, empty, 0, REFUSED(2, 0), empty);

@@ -1,0 +1,62 @@
+/*
+ * The header's own functions, in C and in C++: version, answers taken apart, refusals in words, sizes. Exit status 0 if all is right.
+ */
+#include <stdio.h>
+#include <string.h>
+
+#include "trace.h"
+
+static int bad;
+
+static void expect(const char *name, int right)
+{
+    if (!right) {
+        printf("header: %s\n", name);
+        bad = 1;
+    }
+}
+
+static void version(void)
+{
+    char text[32];
+    sprintf(text, "%d.%d.%d", TRACE_VERSION_MAJOR, TRACE_VERSION_MINOR, TRACE_VERSION_PATCH);
+    expect("the version's text", strcmp(text, TRACE_VERSION) == 0);
+}
+
+/* Each number from 0 to one past the last refusal has a text of its own, and all later ones have that of the first of them. */
+static void texts(void)
+{
+    uint32_t i, j, end = TRACE_REFUSED_DIFFER + 1;
+    for (i = 0; i <= end; i++)
+        for (j = 0; j < i; j++)
+            expect("two numbers with one text", strcmp(trace_refusal_text(i), trace_refusal_text(j)) != 0);
+    expect("a number that is no refusal's", strcmp(trace_refusal_text(UINT32_MAX), trace_refusal_text(end)) == 0);
+}
+
+/* A table of two rules: b after a's record. */
+static void answers(void)
+{
+    static const uint8_t table[] = {TRACE_RANGE, 'a', 'a', 1, TRACE_RANGE, 'b', 'b', 2};
+    uint8_t work[6], reading[4], tokens[6];
+    uint64_t answer = trace_read(table, sizeof table, 1, (const uint8_t *)"b", 1, work, sizeof work, reading, sizeof reading);
+    expect("a result", !trace_is_refused(answer) && answer == 1 && trace_refusal(answer) == 0);
+    answer = trace_tokens(table, sizeof table, 1, reading, TRACE_READING_RECORD, tokens, 2);
+    expect("a refusal", trace_is_refused(answer) && trace_refusal(answer) == TRACE_REFUSED_BUFFER && trace_detail(answer) == TRACE_TOKEN);
+    expect("the check", trace_check(table, sizeof table) == sizeof table / TRACE_TABLE_RECORD);
+}
+
+static void sizes(void)
+{
+    expect("the work area's size", trace_work_size(10, 3) == 100 && trace_work_size(255, 255) == 8388480 && trace_work_size(1, 0) == 1);
+    expect("a reading's size", trace_reading_size(10, 3) == 60 && trace_reading_size(10, 0) == 20);
+    expect("the tokens' size", trace_tokens_size(10, 3) == 90 && trace_tokens_size(10, 0) == 30);
+}
+
+int main(void)
+{
+    version();
+    texts();
+    answers();
+    sizes();
+    return bad;
+}

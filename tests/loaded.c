@@ -1,0 +1,64 @@
+/*
+ * loaded LIBRARY: opens the shared library at run time and makes each of the five calls through it. Exit status 0 if every answer is right.
+ */
+#include <dlfcn.h>
+#include <stdio.h>
+#include <stdlib.h>
+#include <string.h>
+
+#include "trace.h"
+
+/* (a + ab + bc)* */
+static const uint8_t table[] = {
+    TRACE_RANGE, 'a', 'a', 1, TRACE_RANGE, 'a', 'a', 0, TRACE_RANGE, 'b', 'b', 0, TRACE_SEQ, 1, 2, 2, TRACE_RANGE, 'b', 'b', 0,
+    TRACE_RANGE, 'c', 'c', 0, TRACE_SEQ, 4, 5, 3, TRACE_OR, 0, 3, 0, TRACE_OR, 7, 6, 0, TRACE_STAR, 8, 0, 0,
+};
+
+/* The function of that name. ISO C has no cast from an object's pointer to a function's, so its bytes are copied. */
+static void find(void *library, const char *name, void *function)
+{
+    void *symbol = dlsym(library, name);
+    if (symbol == NULL) {
+        printf("loaded: %s\n", dlerror());
+        exit(1);
+    }
+    memcpy(function, &symbol, sizeof symbol);
+}
+
+static void expect(const char *name, int right)
+{
+    if (!right) {
+        printf("loaded: %s: another answer\n", name);
+        exit(1);
+    }
+}
+
+int main(int count, char **arguments)
+{
+    uint64_t (*check)(const uint8_t *, size_t);
+    uint64_t (*read)(const uint8_t *, size_t, uint64_t, const uint8_t *, size_t, uint8_t *, size_t, uint8_t *, size_t);
+    uint64_t (*spell)(const uint8_t *, size_t, uint64_t, const uint8_t *, size_t, uint8_t *, size_t);
+    uint64_t (*compare)(const uint8_t *, size_t, uint64_t, const uint8_t *, size_t, const uint8_t *, size_t);
+    uint64_t (*tokens)(const uint8_t *, size_t, uint64_t, const uint8_t *, size_t, uint8_t *, size_t);
+    uint8_t work[100], reading[60], listed[90], line[3];
+    void *library = dlopen(count == 2 ? arguments[1] : "", RTLD_NOW | RTLD_LOCAL);
+    if (library == NULL) {
+        printf("loaded: %s\n", dlerror());
+        return 1;
+    }
+    find(library, "trace_check", &check);
+    find(library, "trace_read", &read);
+    find(library, "trace_spell", &spell);
+    find(library, "trace_compare", &compare);
+    find(library, "trace_tokens", &tokens);
+
+    expect("check", check(table, sizeof table) == 10);
+    expect("read", read(table, sizeof table, 9, (const uint8_t *)"abc", 3, work, sizeof work, reading, sizeof reading) == 8);
+    expect("spell", spell(table, sizeof table, 9, reading, 16, line, sizeof line) == 3 && memcmp(line, "abc", 3) == 0);
+    expect("compare", compare(table, sizeof table, 9, reading, 16, reading, 16) == 0);
+    expect("tokens", tokens(table, sizeof table, 9, reading, 16, listed, sizeof listed) == 2 && memcmp(listed, "\1\0\1\3\1\2", 6) == 0);
+    expect("a line that is refused",
+           trace_refusal(read(table, sizeof table, 9, (const uint8_t *)"b", 1, work, sizeof work, reading, sizeof reading)) == TRACE_REFUSED_NO_READING);
+    dlclose(library);
+    return 0;
+}
