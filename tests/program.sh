@@ -162,11 +162,19 @@ complains 'tracecut: writing failed: Bad file descriptor\n'
 timeout 60 "$program" >&- 2>err < <(printf 'abc\nabc\n')
 status=$?
 same "a closed standard output"
+
+# the signal SIGPIPE ends the program, with status 141; where it is ignored, the write fails
+head -n 100000 < <(yes abc 2>&1) >unread
 complains ''
-timeout 60 "$program" 2>err < <(yes abc | head -n 100000) | true
-status=${PIPESTATUS[0]}
-[ "$status" -eq 141 ] && status=0 # the signal SIGPIPE ends it
+timeout 60 env --default-signal=PIPE "$program" <unread 2>err | true
+status=$((PIPESTATUS[0] - 141))
 same "a standard output that nobody reads"
+
+complains 'tracecut: writing failed: Broken pipe\n'
+timeout 60 env --ignore-signal=PIPE "$program" <unread 2>err | true
+status=${PIPESTATUS[0]}
+same "a standard output that nobody reads, with SIGPIPE ignored"
+complains ''
 
 # many lines, so that the output is written more than once, each report whole and once, and nothing is lost at the end; the first line is
 # shorter, so that blocks of the input end inside lines
