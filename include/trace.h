@@ -13,7 +13,8 @@
  * libtrace.so:
  *     cc tool.c $(pkg-config --cflags --libs trace)
  *
- * docs/FORMATS.md has the rule by which a line is cut, the bytes of a reading, and the order of readings.
+ * docs/FORMATS.md, which is installed as share/doc/trace/FORMATS.md, has the rule by which a line is cut, the bytes of a reading, and the
+ * order of readings.
  */
 #ifndef TRACE_H
 #define TRACE_H
