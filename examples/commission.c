@@ -138,8 +138,12 @@ int main(void)
         if (!show_line(&buffers, (const uint8_t *)line, length))
             status = 1;
     }
-    if (ferror(stdin) || fflush(stdout) != 0) {
-        perror("commission");
+    if (!feof(stdin)) {
+        perror("commission: reading failed");
+        status = 2;
+    }
+    if (fflush(stdout) != 0 || ferror(stdout)) {
+        fputs("commission: writing failed\n", stderr);
         status = 2;
     }
     free(line);
