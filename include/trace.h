@@ -26,9 +26,9 @@
 extern "C" {
 #endif
 
-/* The version, as numbers and as text ("1.0.0"). Another major number says that a format or a call's result has changed. */
+/* The version, as numbers and as text ("1.1.0"). Another major number says that a format or a call's result has changed. */
 #define TRACE_VERSION_MAJOR 1
-#define TRACE_VERSION_MINOR 0
+#define TRACE_VERSION_MINOR 1
 #define TRACE_VERSION_PATCH 0
 #define TRACE_TEXT_OF(macro) TRACE_TEXT(macro)
 #define TRACE_TEXT(word) #word
@@ -60,15 +60,16 @@ extern "C" {
 #define TRACE_OR 3                /* a or b */
 #define TRACE_SEQ 4               /* a, then b */
 #define TRACE_STAR 5              /* a, any number of times */
+#define TRACE_OTHER 6             /* one byte below a or above b */
 
 /*
  * Refusals. The detail is 0 unless stated.
  * The rule author's: the table is wrong; the detail of 2 to 6 is the record's number.
  */
 #define TRACE_REFUSED_SIZE 1      /* table of 0 bytes, over 1,020, or not a multiple of 4 */
-#define TRACE_REFUSED_KIND 2      /* kind above 5 */
+#define TRACE_REFUSED_KIND 2      /* kind above 6 */
 #define TRACE_REFUSED_UNUSED 3    /* an unused a or b is not 0 */
-#define TRACE_REFUSED_BOUNDS 4    /* Range with a above b */
+#define TRACE_REFUSED_BOUNDS 4    /* Range or Other with a above b */
 #define TRACE_REFUSED_CHILD 5     /* child number not below its parent's */
 #define TRACE_REFUSED_NAMED 6     /* a child named twice, anywhere in the table */
 /* The line's. */
@@ -94,9 +95,9 @@ static inline const char *trace_refusal_text(uint32_t refusal)
     switch (refusal) {
     case 0: return "not refused";
     case TRACE_REFUSED_SIZE: return "the table is empty, over 1,020 bytes long, or not made of whole records of 4 bytes";
-    case TRACE_REFUSED_KIND: return "a record of the table has a kind above 5";
+    case TRACE_REFUSED_KIND: return "a record of the table has a kind above 6";
     case TRACE_REFUSED_UNUSED: return "a record of the table has an a or b that its kind does not use and that is not 0";
-    case TRACE_REFUSED_BOUNDS: return "a Range record of the table has its lowest byte above its highest";
+    case TRACE_REFUSED_BOUNDS: return "a Range or Other record of the table has a above b";
     case TRACE_REFUSED_CHILD: return "a record of the table names a child whose number is not below its own";
     case TRACE_REFUSED_NAMED: return "a record of the table names a child that is named already";
     case TRACE_REFUSED_LINE: return "the line is over 255 bytes long";

@@ -1,6 +1,6 @@
 /*
  * Every refusal of Read, Spell, Compare and Tokens at its edge, with the answers that document 01 states; buffers are compared byte for byte.
- * And null pointers with length 0, in all five calls.
+ * Other at its bounds. And null pointers with length 0, in all five calls.
  * Prints the number of answers, or the first one that is wrong.
  */
 #include <stdio.h>
@@ -82,6 +82,22 @@ static void cut(const char *name, Bytes table, uint64_t start, Bytes line, uint6
     tokens(name, table, start, (Bytes){reading, trace_is_refused(records) ? 0 : TRACE_READING_RECORD * records}, 1024, want, front);
 }
 
+/* A table of one letter: bytes that it holds, each as a line and as a reading, bytes that it does not hold, and the empty line. */
+static void letter(const char *name, Bytes table, Bytes held, Bytes missed)
+{
+    expect(name, trace_check(table.at, table.length), 1);
+    read(name, table, 0, empty, 1, 2, REFUSED(8, 0), empty, 0);
+    for (size_t i = 0; i < held.length; i++) {
+        Bytes line = BYTES(held.at[i]), reading = BYTES(1, held.at[i]);
+        read(name, table, 0, line, 3, 2, 1, reading, 0);
+        spell(name, table, 0, reading, 1, 1, line);
+    }
+    for (size_t i = 0; i < missed.length; i++) {
+        read(name, table, 0, BYTES(missed.at[i]), 3, 2, REFUSED(8, 0), empty, 0);
+        spell(name, table, 0, BYTES(1, missed.at[i]), 1, REFUSED(12, 0), empty);
+    }
+}
+
 /*
  * Every choice of empty arguments, for each call: a null pointer with length 0 gets the answer of a valid pointer with length 0, and the
  * buffer is left the same. The bits of `empties`: 0 the table, 1 the line or the reading, 2 the work area or the second reading, 3 the
@@ -113,7 +129,7 @@ int main(void)
 {
     Bytes t1 = BYTES(2, 97, 97, 1, 2, 97, 97, 0, 2, 98, 98, 0, 4, 1, 2, 2, 2, 98, 98, 0, 2, 99, 99, 0, 4, 4, 5, 3, 3, 0, 3, 0, 3, 7, 6, 0, 5, 8, 0, 0);
     Bytes t2 = BYTES(2, 97, 97, 0, 1, 0, 0, 0, 3, 0, 1, 0, 2, 98, 98, 0, 2, 97, 97, 0, 2, 98, 98, 0, 4, 4, 5, 0, 3, 3, 6, 0, 4, 2, 7, 0);
-    Bytes t3 = BYTES(1, 0, 0, 0, 5, 0, 0, 0), t4 = BYTES(1, 0, 0, 7), bad = BYTES(6, 0, 0, 0);
+    Bytes t3 = BYTES(1, 0, 0, 0, 5, 0, 0, 0), t4 = BYTES(1, 0, 0, 7), bad = BYTES(7, 0, 0, 0);
     Bytes ab = BYTES('a', 'b'), abc = BYTES('a', 'b', 'c');
     Bytes stars = BYTES(5, 0), void_ = BYTES(0, 0);
     Bytes b = BYTES(5, 1, 2, 0, 3, 0, 4, 0, 1, 97, 1, 98);
@@ -153,6 +169,32 @@ int main(void)
     tokens("29C", degrees, 3, reading29, 3, 1, BYTES(1, 0, 2));
     spell("29C", degrees, 3, reading29, 3, 3, line29);
     read("C29", degrees, 3, BYTES('C', '2', '9'), 40, 10, REFUSED(8, 0), empty, 0);
+
+    /* a remark, tagged 1, up to the semicolon; and its Star and its Other as the start */
+    Bytes remark = BYTES(TRACE_OTHER, ';', ';', 0, 5, 0, 0, 1, 2, ';', ';', 0, 4, 1, 2, 0), remark_line = BYTES('a', 'b', ';');
+    Bytes remark_reading = BYTES(4, 0, 5, 2, 1, 'a', 1, 'b', 1, ';');
+    expect("ab;, check", trace_check(remark.at, remark.length), 4);
+    read("ab;", remark, 3, remark_line, 40, 10, 5, remark_reading, 0);
+    spell("ab;", remark, 3, remark_reading, 3, 3, remark_line);
+    tokens("ab;", remark, 3, remark_reading, 3, 1, BYTES(1, 0, 2));
+    compare("ab;", remark, 3, remark_reading, remark_reading, 0);
+    read("a;b;", remark, 3, BYTES('a', ';', 'b', ';'), 60, 12, REFUSED(8, 0), empty, 0);
+    spell("a;b;", remark, 3, BYTES(4, 0, 5, 3, 1, 'a', 1, ';', 1, 'b', 1, ';'), 4, REFUSED(12, 0), empty);
+    read("no semicolon", remark, 3, ab, 24, 10, REFUSED(8, 0), empty, 0);
+    read("the Star", remark, 1, ab, 24, 6, 3, BYTES(5, 2, 1, 'a', 1, 'b'), 0);
+    tokens("the Star", remark, 1, BYTES(5, 2, 1, 'a', 1, 'b'), 3, 1, BYTES(1, 0, 2));
+    read("the Other", remark, 0, BYTES('a'), 12, 2, 1, BYTES(1, 'a'), 0);
+    tokens("the Other", remark, 0, BYTES(1, 'a'), 0, 0, empty);
+    read("the Other, a semicolon", remark, 0, BYTES(';'), 12, 2, REFUSED(8, 0), empty, 0);
+
+    /* Other at its bounds, and the kind after it */
+    letter("Other 5 5", BYTES(TRACE_OTHER, 5, 5, 0), BYTES(0, 4, 6, 255), BYTES(5));
+    letter("Other 0x30 0x39", BYTES(TRACE_OTHER, 0x30, 0x39, 0), BYTES(0x2f, 0x3a), BYTES(0x30, 0x39));
+    letter("Other 1 255", BYTES(TRACE_OTHER, 1, 255, 0), BYTES(0), BYTES(1, 255));
+    letter("Other 0 254", BYTES(TRACE_OTHER, 0, 254, 0), BYTES(255), BYTES(0, 254));
+    letter("Other 0 255", BYTES(TRACE_OTHER, 0, 255, 0), empty, BYTES(0, 'a', 255));
+    expect("Other 5 4", trace_check(BYTES(1, 0, 0, 0, TRACE_OTHER, 5, 4, 0).at, 8), REFUSED(4, 1));
+    expect("kind 7", trace_check(BYTES(1, 0, 0, 0, 7, 0, 0, 0).at, 8), REFUSED(2, 1));
 
     /* the page's two ways to nest (a|ab)(c|bcd)(d*): the tokens 1, 2 and 3 are the three parts */
 #define PARTS 2, 'a', 'a', 0, 2, 'a', 'a', 0, 2, 'b', 'b', 0, 4, 1, 2, 0, 3, 0, 3, 1, 2, 'c', 'c', 0, 2, 'b', 'b', 0, 2, 'c', 'c', 0, 2, 'd', 'd', 0, \

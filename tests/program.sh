@@ -84,15 +84,17 @@ done
 head -c 1020 /dev/zero >rules.tab
 says 'line 1 refused 8\n'
 expect "rules.tab of 1,020 bytes" < <(printf 'a\n')
-printf '\x06\x00\x00\x00' >rules.tab
+printf '\x07\x00\x00\x00' >rules.tab
 says 'table refused 2\n'
-expect "a kind above 5" < <(printf 'a\n')
+expect "a kind above 6" < <(printf 'a\n')
 
-# the demo's 21 records: the work area is enough for 77 bytes, as README.md says
+# the demo's 30 records: the work area is enough for 64 bytes, as README.md says
 bash "$demo/build-table.sh" "$demo/rules.txt" >rules.tab
-says 'line 1 ok 3\n1 0 5\n2 6 4\n3 11 66\nline 2 refused 10\n'
+says 'line 1 ok 3\n1 0 5\n2 6 4\n3 11 53\nline 2 refused 10\n'
 digits() { head -c "$1" /dev/zero | tr '\0' 7; }
-expect "the demo's table, lines of 77 and 78 bytes" < <(printf '12:04 lift '; digits 66; printf '\n12:04 lift '; digits 67)
+expect "the demo's table, lines of 64 and 65 bytes" < <(printf '12:04 lift '; digits 53; printf '\n12:04 lift '; digits 54)
+says 'line 1 ok 4\n4 0 6\n1 8 5\n2 14 4\n3 19 2\nline 2 refused 8\nline 3 refused 8\n'
+expect "the demo's table, free text up to a semicolon" < <(printf 'a\0\377 b#; 12:04 lift 29\na;b; 12:04 lift 29\nab 12:04 lift 29\n')
 
 # the last record is the start: a, then b, each tagged with its number plus 1
 printf '\x02\x61\x61\x01\x02\x62\x62\x02' >rules.tab

@@ -50,4 +50,17 @@ done <<'LIST'
 19 gate Compare says 13 of the first before 12 of the second
 20 stack fitting takes 8 KiB of stack at each level
 21 gate Tokens goes inside a tagged record
+22 gate Other holds its bounds
+23 gate Other holds only what is below its bounds
+24 gate Other holds only what is above its bounds
+25 gate Other with equal bounds holds nothing
+26 gate Other with bounds 0 and 255 holds every byte
+27 gate Check refuses Other
+28 gate Check passes kind 7
+29 gate Check passes Other with a above b
+30 gate Check refuses Other with bounds 0 and 255
+31 gate Check takes a bound of Other for a child
+32 gate Read writes Other's kind for Byte's
+33 gate fitting takes any byte for Other
+34 gate Tokens does not count Other's byte
 LIST

@@ -5,16 +5,17 @@ use native.Mathlib.Nat.{add-zero, sub-zero}
 use native.Mathlib.Omega.{arith}
 use mathlib.Core.Path.{_≡_, refl, sym, ap, _∙_}
 use mathlib.Core.Logic.{_⊎_, inl, inr}
-use mathlib.Core.Bool.{true, false, _&&_, or-false, and-true, and-false}
+use mathlib.Core.Bool.{Bool, true, false, _&&_, or-false, and-true, and-false}
 use mathlib.Core.List.{List, [], _∷_}
-use lib.Dec.{eqb, leb}
+use lib.Dec.{eqb}
 use lib.ListN.{length, getD, set, drop}
 use lib.Seq.{getD-take, getD-drop}
-use borrow.Author.Tests.{ne-eqb, le-leb, lt-leb}
-use Rattle.regex.specs.Expressions.{ByteSet, within, holds, empty, letter, star}
+use borrow.Author.Tests.{ne-eqb}
+use Rattle.regex.specs.Expressions.{ByteSet, holds, empty, letter, star}
 use Rattle.regex.specs.Spells.{spells}
-use Rattle.table.specs.Records.{count, kindAt, aAt, bAt}
+use Rattle.table.specs.Records.{count, kindAt, aAt, bAt, isLetter}
 use Rattle.table.specs.Expression.{expOf}
+use Rattle.table.specs.Letters.{byteSet, byteSetAt}
 use Rattle.table.proofs.Laws.{exp-nothing, exp-empty, exp-letter, exp-or, exp-seq, exp-star}
 use Rattle.table.proofs.Passing.{count-bound, a-below, b-below, star-a-below}
 use Rattle.area.specs.Area.{rowAt, part}
@@ -36,12 +37,11 @@ letter-spells b [] = refl
 letter-spells b (c ∷ []) = refl
 letter-spells b (c ∷ (x ∷ u)) = rw (ne-eqb (suc (suc (length u))) 1 (λ (z : suc (suc (length u)) ≡ 1). omega arith))
 
--- the code's two tests of a byte against a Range
-pub range-within : (a b c : ℕ) {lo hi : ℕ} → lo ≡ a → hi ≡ b → lo ≤ c → leb c hi ≡ holds (within a b) c
-range-within a b c h1 h2 l = let test : leb a c ≡ true = le-leb a c (omega arith) in rw (h2, test)
-
-pub range-below : (a b c : ℕ) {lo : ℕ} → lo ≡ a → c < lo → leb lo c ≡ holds (within a b) c
-range-below a b c h1 l = let test : leb a c ≡ false = lt-leb a c (omega arith) in rw (h1, test)
+-- a letter by the bytes of its record
+pub held-by :
+    (t : List ℕ) (k c : ℕ) {kind a b : ℕ} {r : Bool} → kind ≡ kindAt t k → a ≡ aAt t k → b ≡ bAt t k → r ≡ holds (byteSet kind a b) c
+    → r ≡ holds (byteSetAt t k) c
+held-by t k c e f g h = h ∙ rw (e, f, g)
 
 -- a letter on a part of e bytes: one byte, the first
 letter-part : (b : ByteSet) (s : List ℕ) (d e : ℕ) → d ≤ length s → e ≤ d
@@ -81,30 +81,30 @@ module _ (t s : List ℕ) (d k : ℕ) (w : List ℕ) (p : Cleared t s d k w) whe
       (λ e l. marked-told 0 e l
       ∙ rw (exp-empty t k kind) (sym (empty-spells (part s d e) ∙ rw (part-length s d (p .ready .depth) e l))))
 
-  -- the byte of the line that a Range tests
+  -- the byte of the line that a letter tests
   abbrev pub head : ℕ
   head = getD s (length s - d) 0
 
-  letter-row : kindAt t k ≡ 2 → (e : ℕ) → e ≤ d
-      → spells (expOf t k) (part s d e) ≡ (eqb e 1 && holds (within (aAt t k) (bAt t k)) head)
-  letter-row kind e x = rw (exp-letter t k kind) (letter-part (within (aAt t k) (bAt t k)) s d e (p .ready .depth) x)
+  letter-row : isLetter t k ≡ true → (e : ℕ) → e ≤ d
+      → spells (expOf t k) (part s d e) ≡ (eqb e 1 && holds (byteSetAt t k) head)
+  letter-row kind e x = rw (exp-letter t k kind) (letter-part (byteSetAt t k) s d e (p .ready .depth) x)
 
-  pub range-filled : kindAt t k ≡ 2 → 1 ≤ d → holds (within (aAt t k) (bAt t k)) head ≡ true → (to : ℕ) → to ≡ rowAt m d k
+  pub letter-filled : isLetter t k ≡ true → 1 ≤ d → holds (byteSetAt t k) head ≡ true → (to : ℕ) → to ≡ rowAt m d k
       → Filled t s d (k + 1) w (set w (to + 1) 1)
-  range-filled kind l h to at =
+  letter-filled kind l h to at =
       row-filled t s d k w (p .ready) (set w (to + 1) 1) (marked w (rowAt m d k) 1)
       (rw at (mark 1 l))
       (λ e x. marked-told 1 e x ∙ sym (letter-row kind e x ∙ rw h (and-true (eqb e 1))))
 
-  pub range-unfilled : kindAt t k ≡ 2 → (d ≡ 0) ⊎ (holds (within (aAt t k) (bAt t k)) head ≡ false) → Filled t s d (k + 1) w w
-  range-unfilled kind o =
+  pub letter-unfilled : isLetter t k ≡ true → (d ≡ 0) ⊎ (holds (byteSetAt t k) head ≡ false) → Filled t s d (k + 1) w w
+  letter-unfilled kind o =
       row-filled t s d k w (p .ready) w (rowSet w (rowAt m d k)) unchanged
-      (λ e x. p .clear e x ∙ sym (letter-row kind e x ∙ outside e x o))
+      (λ e x. p .clear e x ∙ sym (letter-row kind e x ∙ missed e x o))
     where
-      outside : (e : ℕ) → e ≤ d → (d ≡ 0) ⊎ (holds (within (aAt t k) (bAt t k)) head ≡ false)
-          → (eqb e 1 && holds (within (aAt t k) (bAt t k)) head) ≡ false
-      outside e x (inl z) = rw (ne-eqb e 1 (λ (q : e ≡ 1). omega arith))
-      outside e x (inr z) = rw z (and-false (eqb e 1))
+      missed : (e : ℕ) → e ≤ d → (d ≡ 0) ⊎ (holds (byteSetAt t k) head ≡ false)
+          → (eqb e 1 && holds (byteSetAt t k) head) ≡ false
+      missed e x (inl z) = rw (ne-eqb e 1 (λ (q : e ≡ 1). omega arith))
+      missed e x (inr z) = rw z (and-false (eqb e 1))
 
   -- the children of Or and Seq
   a-child : (kindAt t k ≡ 3) ⊎ (kindAt t k ≡ 4) → aAt t k < k

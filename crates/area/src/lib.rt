@@ -5,9 +5,10 @@ ghost use Prim.Native.Nat.{_+_, _-_, _*_, _≤_, _<_};
 ghost use mathlib.Core.Path.{_≡_};
 ghost use mathlib.Core.Bool.{true};
 ghost use lib.ListN.{length, getD};
-ghost use Rattle.regex.specs.Expressions.{within, holds};
-ghost use Rattle.table.specs.Records.{count, kindAt, aAt, bAt};
+ghost use Rattle.regex.specs.Expressions.{holds};
+ghost use Rattle.table.specs.Records.{count, kindAt, aAt, bAt, isLetter};
 ghost use Rattle.table.specs.Faults.{Passes};
+ghost use Rattle.table.specs.Letters.{byteSetAt};
 ghost use Rattle.area.specs.Area.{areaSize, rowAt, isSet, tells, Told};
 ghost use Rattle.area.specs.Rows.{Written, blank, joined, NextSet, Joinable, cutsJoined};
 ghost use Rattle.area.specs.Filling.{ToldBelow, Sized, Ready, Cleared, Filled};
@@ -129,14 +130,15 @@ fn second_row(table: &[u8], d: usize, k: usize) -> usize
     row_at(table.len() / 4, d, table::b_at(table, k) as usize)
 }
 
-// Whether the Range k holds byte c.
-fn in_range(table: &[u8], k: usize, c: u8) -> bool
+// Whether the letter k holds byte c.
+fn held(table: &[u8], k: usize, c: u8) -> bool
     requires { ⌜ 4 * k + 3 < length (now table) ⌝ }
-    ensures { λ r. ⌜ r ≡ holds (within (aAt (now (table .entry)) k) (bAt (now (table .entry)) k)) c ⌝ }
+    ensures { λ r. ⌜ r ≡ holds (byteSetAt (now (table .entry)) k) c ⌝ }
 {
+    let kind = table::kind_at(table, k);
     let low = table::a_at(table, k);
     let high = table::b_at(table, k);
-    low <= c && c <= high
+    table::letter_holds(kind, low, high, c)
 }
 
 // The row of an Empty: its byte 0.
@@ -149,15 +151,15 @@ fn fill_empty(table: &[u8], line: &[u8], work: &mut [u8], d: usize, k: usize)
     work[to] = 1;
 }
 
-// The row of a Range: its byte 1, where the first byte of the part is in the range.
-fn fill_range(table: &[u8], line: &[u8], work: &mut [u8], d: usize, k: usize)
+// The row of a letter: its byte 1, where the letter holds the first byte of the part.
+fn fill_letter(table: &[u8], line: &[u8], work: &mut [u8], d: usize, k: usize)
     requires { ⌜ Cleared (now table) (now line) d k (now work) ⌝ }
-    requires { ⌜ kindAt (now table) k ≡ 2 ⌝ }
+    requires { ⌜ isLetter (now table) k ≡ true ⌝ }
     ensures { λ _. ⌜ Filled (now (table .entry)) (now (line .entry)) d (k + 1) (now (work .entry)) (now (work .exit)) ⌝ }
 {
     if 0 < d {
         let c = line[line.len() - d];
-        if in_range(table, k, c) {
+        if held(table, k, c) {
             let to = row_at(table.len() / 4, d, k);
             work[to + 1] = 1;
         }
@@ -213,7 +215,7 @@ fn fill_row(table: &[u8], line: &[u8], work: &mut [u8], d: usize, k: usize)
     let kind = table::kind_at(table, k);
     match kind {
         1 => fill_empty(table, line, work, d, k),
-        2 => fill_range(table, line, work, d, k),
+        2 | 6 => fill_letter(table, line, work, d, k),
         3 => fill_or(table, line, work, d, k),
         4 => fill_seq(table, line, work, d, k),
         5 => fill_star(table, line, work, d, k),

@@ -1,4 +1,4 @@
--- Tables T1 to T4 and the cases A to J follow from the definitions that the calls' contracts cite: one proof over the list.
+-- Tables T1 to T4, the cases A to J and those of Other follow from the definitions that the calls' contracts cite: one proof over the list.
 -- Assumes nothing.
 use mathlib.Core.Path.{_≡_, refl}
 use mathlib.Core.List.{map}
@@ -10,7 +10,7 @@ use Rattle.ranking.specs.Answers.{compareSays}
 use Rattle.matcher.specs.Calls.{readSays, readLeaves}
 use Rattle.cases.specs.Cases.{stated, computedBy, computed, cases}
 
--- every case comes out as the document states it
+-- every case comes out as it is stated
 pub cases-hold : map computed cases ≡ map stated cases
 unfolding computed computedBy below expOf readingOf spellSays spellLeaves tokensSays tokensLeaves compareSays readSays readLeaves
 cases-hold = refl

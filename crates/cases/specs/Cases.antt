@@ -1,4 +1,5 @@
--- The cases A to J of document 01, "Lines on the bench", in bytes: a call, what it answers and what it writes.
+-- The cases A to J of document 01, "Lines on the bench", and cases of document 02, request 1, in bytes: a call, what it answers and what it
+-- writes.
 -- Assumes nothing.
 use Prim.Native.Nat.{ℕ}
 use mathlib.Core.List.{List, [], _∷_, _++_}
@@ -9,7 +10,7 @@ use Rattle.reading.specs.Calls.{spellSays, spellLeaves}
 use Rattle.tokens.specs.Listed.{tokensSays, tokensLeaves}
 use Rattle.ranking.specs.Answers.{compareSays}
 use Rattle.matcher.specs.Calls.{readSays, readLeaves}
-use Rattle.cases.specs.Tables.{T1, T2, T3, T4}
+use Rattle.cases.specs.Tables.{T1, T2, T3, T4, Remark, NoByte, AllBut5, Crossed, Kind7}
 
 -- a call on a table and a start number
 pub data Call : Type 0 where
@@ -38,7 +39,7 @@ entry = replicate 32 0xee
 abbrev pub workBytes : ℕ
 workBytes = 210
 
--- what the document states
+-- what is stated
 abbrev pub stated : Case → Outcome
 stated c = record { said = c .said; out = c .bytes ++ drop (length (c .bytes)) entry }
 
@@ -73,7 +74,14 @@ F-reading = 4 ∷ 0 ∷ 2 ∷ 0 ∷ 1 ∷ 0x61 ∷ 2 ∷ 0 ∷ 1 ∷ 0x62 ∷ []
 abbrev pub G-rival : List ℕ
 G-rival = 4 ∷ 0 ∷ 3 ∷ 0 ∷ 0 ∷ 0 ∷ 3 ∷ 0 ∷ 4 ∷ 0 ∷ 1 ∷ 0x61 ∷ 1 ∷ 0x62 ∷ []
 
--- T1 to T4 pass; A to J; the readings spelled back; G the other way round
+-- the reading of ab; by Remark, and bytes that would have ; in the text
+abbrev pub Remark-reading : List ℕ
+Remark-reading = 4 ∷ 0 ∷ 5 ∷ 2 ∷ 1 ∷ 0x61 ∷ 1 ∷ 0x62 ∷ 1 ∷ 0x3b ∷ []
+
+abbrev pub Remark-unfit : List ℕ
+Remark-unfit = 4 ∷ 0 ∷ 5 ∷ 1 ∷ 1 ∷ 0x3b ∷ 1 ∷ 0x3b ∷ []
+
+-- T1 to T4 pass; A to J; the readings spelled back; G the other way round; then Other
 abbrev pub cases : List Case
 cases =
     case T1 check (gives 10) []
@@ -106,4 +114,26 @@ cases =
     -- J
     ∷ case T4 (read 0 []) (gives 1) (0 ∷ 0 ∷ [])
     ∷ case T4 (tokens 0 (0 ∷ 0 ∷ [])) (gives 1) (7 ∷ 0 ∷ 0 ∷ [])
+    -- Remark
+    ∷ case Remark check (gives 4) []
+    ∷ case Remark (read 3 (0x61 ∷ 0x62 ∷ 0x3b ∷ [])) (gives 5) Remark-reading
+    ∷ case Remark (spell 3 Remark-reading) (gives 3) (0x61 ∷ 0x62 ∷ 0x3b ∷ [])
+    ∷ case Remark (tokens 3 Remark-reading) (gives 1) (9 ∷ 0 ∷ 2 ∷ [])
+    ∷ case Remark (read 3 (0x61 ∷ 0x3b ∷ 0x62 ∷ 0x3b ∷ [])) (refuses 8 0) []
+    ∷ case Remark (spell 3 Remark-unfit) (refuses 12 0) []
+    -- NoByte: accepted, and spells no line
+    ∷ case NoByte check (gives 1) []
+    ∷ case NoByte (read 0 []) (refuses 8 0) []
+    ∷ case NoByte (read 0 (0 ∷ [])) (refuses 8 0) []
+    ∷ case NoByte (read 0 (255 ∷ [])) (refuses 8 0) []
+    ∷ case NoByte (spell 0 (1 ∷ 255 ∷ [])) (refuses 12 0) []
+    -- AllBut5
+    ∷ case AllBut5 check (gives 1) []
+    ∷ case AllBut5 (read 0 (4 ∷ [])) (gives 1) (1 ∷ 4 ∷ [])
+    ∷ case AllBut5 (read 0 (5 ∷ [])) (refuses 8 0) []
+    ∷ case AllBut5 (read 0 (6 ∷ [])) (gives 1) (1 ∷ 6 ∷ [])
+    ∷ case AllBut5 (spell 0 (1 ∷ 5 ∷ [])) (refuses 12 0) []
+    -- Crossed, Kind7
+    ∷ case Crossed check (refuses 4 0) []
+    ∷ case Kind7 check (refuses 2 0) []
     ∷ []

@@ -1,4 +1,4 @@
--- The tables T1 to T4 of document 01, "Lines on the bench", byte for byte.
+-- The tables T1 to T4 of document 01, "Lines on the bench", byte for byte, and tables for the kind of document 02, request 1.
 -- Assumes nothing.
 use Prim.Native.Nat.{ℕ}
 use mathlib.Core.List.{List, [], _∷_}
@@ -39,3 +39,28 @@ T3 = 1 ∷ 0 ∷ 0 ∷ 0 ∷ 5 ∷ 0 ∷ 0 ∷ 0 ∷ []
 -- T4, start 0
 abbrev pub T4 : List ℕ
 T4 = 1 ∷ 0 ∷ 0 ∷ 7 ∷ []
+
+-- free text up to the semicolon, token 9, and the semicolon: a Star over an Other from ; to ;, then ;. Start 3
+abbrev pub Remark : List ℕ
+Remark =
+    6 ∷ 0x3b ∷ 0x3b ∷ 0
+    ∷ 5 ∷ 0 ∷ 0 ∷ 9
+    ∷ 2 ∷ 0x3b ∷ 0x3b ∷ 0
+    ∷ 4 ∷ 1 ∷ 2 ∷ 0
+    ∷ []
+
+-- Other from 0 to 255, start 0
+abbrev pub NoByte : List ℕ
+NoByte = 6 ∷ 0 ∷ 255 ∷ 0 ∷ []
+
+-- Other from 5 to 5, start 0
+abbrev pub AllBut5 : List ℕ
+AllBut5 = 6 ∷ 5 ∷ 5 ∷ 0 ∷ []
+
+-- Other with a above b
+abbrev pub Crossed : List ℕ
+Crossed = 6 ∷ 6 ∷ 5 ∷ 0 ∷ []
+
+-- a kind above all
+abbrev pub Kind7 : List ℕ
+Kind7 = 7 ∷ 0 ∷ 0 ∷ 0 ∷ []

@@ -1,9 +1,9 @@
-// Runs the cases A to J of document 01 through the calls and writes a line for each: the answer, and the bytes that the call wrote. The tables
-// and readings are those of specs/, which the one proof over the cases covers.
+// Runs the cases A to J of document 01, and those of document 02's Other, through the calls and writes a line for each: the answer, and the
+// bytes that the call wrote. The tables and readings are those of specs/, which the one proof over the cases covers.
 
 ghost use mathlib.Core.Path.{_≡_};
-ghost use Rattle.cases.specs.Tables.{T1, T2, T3, T4};
-ghost use Rattle.cases.specs.Cases.{B-reading, C-reading, D-reading, F-reading, G-rival};
+ghost use Rattle.cases.specs.Tables.{T1, T2, T3, T4, Remark, NoByte, AllBut5, Crossed, Kind7};
+ghost use Rattle.cases.specs.Cases.{B-reading, C-reading, D-reading, F-reading, G-rival, Remark-reading, Remark-unfit};
 use libc::STDOUT_FILENO;
 use table::Answer;
 
@@ -29,6 +29,36 @@ fn t4() -> [u8; 4]
     ensures { λ r. ⌜ r ≡ T4 ⌝ }
 {
     *b"\x01\x00\x00\x07"
+}
+
+fn remark() -> [u8; 16]
+    ensures { λ r. ⌜ r ≡ Remark ⌝ }
+{
+    *b"\x06\x3b\x3b\x00\x05\x00\x00\x09\x02\x3b\x3b\x00\x04\x01\x02\x00"
+}
+
+fn no_byte() -> [u8; 4]
+    ensures { λ r. ⌜ r ≡ NoByte ⌝ }
+{
+    *b"\x06\x00\xff\x00"
+}
+
+fn all_but_5() -> [u8; 4]
+    ensures { λ r. ⌜ r ≡ AllBut5 ⌝ }
+{
+    *b"\x06\x05\x05\x00"
+}
+
+fn crossed() -> [u8; 4]
+    ensures { λ r. ⌜ r ≡ Crossed ⌝ }
+{
+    *b"\x06\x06\x05\x00"
+}
+
+fn kind_7() -> [u8; 4]
+    ensures { λ r. ⌜ r ≡ Kind7 ⌝ }
+{
+    *b"\x07\x00\x00\x00"
 }
 
 fn b_reading() -> [u8; 12]
@@ -59,6 +89,18 @@ fn g_rival() -> [u8; 14]
     ensures { λ r. ⌜ r ≡ G-rival ⌝ }
 {
     *b"\x04\x00\x03\x00\x00\x00\x03\x00\x04\x00\x01\x61\x01\x62"
+}
+
+fn remark_reading() -> [u8; 10]
+    ensures { λ r. ⌜ r ≡ Remark-reading ⌝ }
+{
+    *b"\x04\x00\x05\x02\x01\x61\x01\x62\x01\x3b"
+}
+
+fn remark_unfit() -> [u8; 8]
+    ensures { λ r. ⌜ r ≡ Remark-unfit ⌝ }
+{
+    *b"\x04\x00\x05\x01\x01\x3b\x01\x3b"
 }
 
 // An answer: `gives` and the result, or `refuses`, the number and the detail.
@@ -190,6 +232,40 @@ fn run_t4() {
     run_tokens(b"J tokens", &table, 0, b"\x00\x00");
 }
 
+fn run_remark() {
+    let table = remark();
+    let reading = remark_reading();
+    run_check(b"Remark", &table);
+    run_read(b"Remark ab;", &table, 3, b"ab;");
+    run_spell(b"Remark spelled", &table, 3, &reading);
+    run_tokens(b"Remark tokens", &table, 3, &reading);
+    run_read(b"Remark a;b;", &table, 3, b"a;b;");
+    run_spell(b"Remark with ; in the text", &table, 3, &remark_unfit());
+}
+
+fn run_no_byte() {
+    let table = no_byte();
+    run_check(b"NoByte", &table);
+    run_read(b"NoByte, no byte", &table, 0, b"");
+    run_read(b"NoByte, byte 0", &table, 0, b"\x00");
+    run_read(b"NoByte, byte 255", &table, 0, b"\xff");
+    run_spell(b"NoByte spelled", &table, 0, b"\x01\xff");
+}
+
+fn run_all_but_5() {
+    let table = all_but_5();
+    run_check(b"AllBut5", &table);
+    run_read(b"AllBut5, byte 4", &table, 0, b"\x04");
+    run_read(b"AllBut5, byte 5", &table, 0, b"\x05");
+    run_read(b"AllBut5, byte 6", &table, 0, b"\x06");
+    run_spell(b"AllBut5 spelled", &table, 0, b"\x01\x05");
+}
+
+fn run_refused() {
+    run_check(b"Crossed", &crossed());
+    run_check(b"Kind7", &kind_7());
+}
+
 fn main() {
     run_t1();
     run_t1_more();
@@ -197,4 +273,8 @@ fn main() {
     run_t2_more();
     run_t3();
     run_t4();
+    run_remark();
+    run_no_byte();
+    run_all_but_5();
+    run_refused();
 }

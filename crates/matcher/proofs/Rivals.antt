@@ -46,7 +46,7 @@ module _ (t : List ℕ) (k : ℕ) (s : List ℕ) (work : ℕ) (h : Setting t k s
         let e : flat v ≡ s = posix-flat p in
         let f : Fits t k (encode v) = record { value = v; reads = posix-reads p; encoded = refl } in
         record {
-          bytes = encode-bytes (posix-reads p) (rw e (h .line)) (rw e (h .short));
+          bytes = encode-bytes (posix-reads p) (rw e (h .short));
           fits = f;
           spells = spelled-fits f ∙ e;
         }

@@ -11,7 +11,7 @@ use Rattle.regex.specs.Values.{Val, left, right, pair}
 use Rattle.regex.specs.Relation.{Posix, posix-byte}
 use Rattle.regex.proofs.Flats.{posix-reads}
 use Rattle.regex.proofs.Ahead.{posix-unique}
-use Rattle.table.specs.Records.{count, kindAt, aAt, bAt}
+use Rattle.table.specs.Records.{count, kindAt, aAt, bAt, isLetter}
 use Rattle.table.specs.Expression.{expOf}
 use Rattle.table.proofs.Laws.{exp-empty, exp-letter}
 use Rattle.area.specs.Area.{areaSize, tells, part}
@@ -105,15 +105,15 @@ module _ {t s w : List ℕ} {k d e : ℕ} (h : Here t s w k d e) where
         bytes = ap encode (empty-reading (read-as (exp-empty t k z)) .0);
       }
 
-  -- Range: the part is one byte
-  pub letter-one : kindAt t k ≡ 2 → e ≡ 1
+  -- a letter: the part is one byte
+  pub letter-one : isLetter t k ≡ true → e ≡ 1
   letter-one z = sym (part-length s d e (h .left) (h .size)) ∙ letter-length (read-as (exp-letter t k z))
 
-  letter-part : kindAt t k ≡ 2 → part s d e ≡ getD s (length s - d) 0 ∷ []
+  letter-part : isLetter t k ≡ true → part s d e ≡ getD s (length s - d) 0 ∷ []
   letter-part z =
       ap (part s d) (letter-one z) ∙ part-one s d (omega (arith, letter-one z, h .size)) (h .left)
 
-  letter-leaf : kindAt t k ≡ 2 → Leaf 1 (getD s (length s - d) 0) t s k d e
+  letter-leaf : isLetter t k ≡ true → Leaf 1 (getD s (length s - d) 0) t s k d e
   letter-leaf z =
       record {
         value = reading h .0;
@@ -173,11 +173,11 @@ module _ {t s w : List ℕ} {k d e : ℕ} {out : List ℕ} {at : ℕ} {b : Bool}
   pub empty-walked : {out1 : List ℕ} {n : ℕ} → kindAt t k ≡ 1 → Stored (0 ∷ 0 ∷ []) out at b out1 n → Walked encode t s k d e out at b out1 n
   empty-walked z p = leaf-walked (empty-leaf (g .here) z) p
 
-  pub letter-room : kindAt t k ≡ 2 → Room (1 ∷ getD s (length s - d) 0 ∷ []) out at b
+  pub letter-room : isLetter t k ≡ true → Room (1 ∷ getD s (length s - d) 0 ∷ []) out at b
   letter-room z = leaf-room (letter-leaf (g .here) z) g
 
   pub letter-walked :
-      {out1 : List ℕ} {n : ℕ} → kindAt t k ≡ 2 → Stored (1 ∷ getD s (length s - d) 0 ∷ []) out at b out1 n
+      {out1 : List ℕ} {n : ℕ} → isLetter t k ≡ true → Stored (1 ∷ getD s (length s - d) 0 ∷ []) out at b out1 n
       → Walked encode t s k d e out at b out1 n
   letter-walked z p = leaf-walked (letter-leaf (g .here) z) p
 

@@ -4,17 +4,14 @@ use Prim.Native.Nat.{ℕ, _*_, _≤_, _<_}
 use mathlib.Core.Path.{_≡_}
 use mathlib.Core.List.{List, _++_}
 use mathlib.Core.Logic.{_↔_}
-use lib.ListN.{length, getD, drop}
+use lib.ListN.{length, drop}
+use Rattle.regex.specs.Language.{Bytes}
 use Rattle.table.specs.Records.{count}
 use Rattle.table.specs.Faults.{Passes}
 use Rattle.table.specs.Answers.{Said, gives, refuses}
 use Rattle.reading.specs.Fitting.{Fits, spelled}
 use Rattle.ranking.specs.Answers.{compareSays}
 use Rattle.matcher.specs.Calls.{workSize}
-
--- a byte sequence
-abbrev pub Bytes : List ℕ → Type 0
-Bytes bs = (i : ℕ) → i < length bs → getD bs i 0 < 256
 
 -- a byte sequence that fits the start record and spells the line
 pub record Rival (t : List ℕ) (k : ℕ) (s bs : List ℕ) : Type 0 where

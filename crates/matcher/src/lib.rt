@@ -7,7 +7,7 @@ ghost use mathlib.Core.Path.{_≡_};
 ghost use mathlib.Core.Bool.{true};
 ghost use mathlib.Core.List.{_∷_, []};
 ghost use lib.ListN.{length};
-ghost use Rattle.table.specs.Records.{count, kindAt};
+ghost use Rattle.table.specs.Records.{count, kindAt, isLetter};
 ghost use Rattle.table.specs.Answers.{says, gives};
 ghost use Rattle.area.specs.Area.{areaSize};
 ghost use Rattle.reading.specs.Codec.{encode, encodeItems};
@@ -94,8 +94,8 @@ fn walk_empty(
     put(out, at, 0, 0, writing)
 }
 
-// A Range's part: Byte.
-fn walk_range(
+// A letter's part: Byte.
+fn walk_letter(
     table: &[u8],
     k: usize,
     line: &[u8],
@@ -107,7 +107,7 @@ fn walk_range(
     writing: bool,
 ) -> usize
     requires { ⌜ Given encode (now table) (now line) (now work) k d e (now out) at writing ⌝ }
-    requires { ⌜ kindAt (now table) k ≡ 2 ⌝ }
+    requires { ⌜ isLetter (now table) k ≡ true ⌝ }
     ensures { λ r. ⌜ Walked encode (now (table .entry)) (now (line .entry)) k d e (now (out .entry)) at writing (now (out .exit)) r ⌝ }
 {
     let c = line[line.len() - d];
@@ -245,7 +245,7 @@ fn walk(
     let kind = table::kind_at(table, k);
     match kind {
         1 => walk_empty(table, k, line, work, d, e, out, at, writing),
-        2 => walk_range(table, k, line, work, d, e, out, at, writing),
+        2 | 6 => walk_letter(table, k, line, work, d, e, out, at, writing),
         3 => walk_or(table, k, line, work, d, e, out, at, writing),
         4 => walk_seq(table, k, line, work, d, e, out, at, writing),
         5 => walk_star(table, k, line, work, d, e, out, at, writing),

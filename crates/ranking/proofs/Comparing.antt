@@ -15,7 +15,7 @@ use Rattle.table.specs.Records.{count}
 use Rattle.table.specs.Faults.{Passes}
 use Rattle.reading.specs.declared.Span.{Span}
 use Rattle.reading.specs.declared.Shape.{Shape}
-use Rattle.reading.specs.declared.Shape.the-variants.{Leaf, Left, Right, Both, Many, Other}
+use Rattle.reading.specs.declared.Shape.the-variants.{Leaf, Left, Right, Both, Many, Wrong}
 use Rattle.reading.proofs.Shape.{the-type}
 use Rattle.reading.specs.Codec.{fits}
 use Rattle.reading.specs.Fitting.{stepped}
@@ -71,7 +71,7 @@ shapeTag (Left c) = 2
 shapeTag (Right c) = 2
 shapeTag (Both c d) = 3
 shapeTag (Many c n) = 4
-shapeTag Other = 5
+shapeTag Wrong = 5
 
 leaf-tag : (n y : ℕ) (rest over : List ℕ) (v : Val) → leaf n y rest ≡ fits v over → n ≡ tag v
 leaf-tag zero y rest over v e = let f : void ≡ v = cc in ap tag f
@@ -85,7 +85,7 @@ tagged t k bs at (Right c) h x = sym (ap tag (fitted-right t k bs at c h x .1))
 tagged t k bs at (Both c d) h x = sym (ap tag (fitted-both t k c d bs at (h .known .0) h x .value-both))
 tagged t k bs at (Many c n) h x =
     tag-star (items-reads t c n bs (at + 2) (record { value = x .value; rest = x .rest; found = sym (h .decoded) ∙ x .found }))
-tagged t k bs at Other h x = absurd (fitted-other t k bs at h x)
+tagged t k bs at Wrong h x = absurd (fitted-other t k bs at h x)
 
 -- the shapes that two parts by one record can have
 abbrev Alike : Shape → Shape → Type 0
@@ -94,7 +94,7 @@ Alike (Left c) u = (u ≡ Left c) ⊎ ((d : ℕ) × (u ≡ Right d))
 Alike (Right c) u = (u ≡ Right c) ⊎ ((d : ℕ) × (u ≡ Left d))
 Alike (Both c d) u = u ≡ Both c d
 Alike (Many c m) u = (n : ℕ) × (u ≡ Many c n)
-Alike Other u = ⊥
+Alike Wrong u = ⊥
 
 module _ (t : List ℕ) (k : ℕ) (bs : List ℕ) (at : ℕ) (cs : List ℕ) (bt : ℕ) where
   alike : (s u : Shape) → Known t k bs at s → Known t k cs bt u → shapeTag s ≡ shapeTag u → shapeTag s < 5 → Alike s u
@@ -103,37 +103,37 @@ module _ (t : List ℕ) (k : ℕ) (bs : List ℕ) (at : ℕ) (cs : List ℕ) (bt
   alike (Leaf c) (Right d) w z e l = absurd (omega (arith, w .1))
   alike (Leaf c) (Both d d′) w z e l = absurd (omega (arith, w .1))
   alike (Leaf c) (Many d d′) w z e l = absurd (omega (arith, w .1))
-  alike (Leaf c) Other w z e l = absurd (omega arith)
+  alike (Leaf c) Wrong w z e l = absurd (omega arith)
   alike (Left c) (Leaf d) w z e l = absurd (omega (arith, z .1))
   alike (Left c) (Left d) w z e l = let f : d ≡ c = z .3 ∙ sym (w .3) in inl (ap Left f)
   alike (Left c) (Right d) w z e l = inr (d, refl)
   alike (Left c) (Both d d′) w z e l = absurd (omega arith)
   alike (Left c) (Many d d′) w z e l = absurd (omega arith)
-  alike (Left c) Other w z e l = absurd (omega arith)
+  alike (Left c) Wrong w z e l = absurd (omega arith)
   alike (Right c) (Leaf d) w z e l = absurd (omega (arith, z .1))
   alike (Right c) (Left d) w z e l = inr (d, refl)
   alike (Right c) (Right d) w z e l = let f : d ≡ c = z .3 ∙ sym (w .3) in inl (ap Right f)
   alike (Right c) (Both d d′) w z e l = absurd (omega arith)
   alike (Right c) (Many d d′) w z e l = absurd (omega arith)
-  alike (Right c) Other w z e l = absurd (omega arith)
+  alike (Right c) Wrong w z e l = absurd (omega arith)
   alike (Both c c′) (Leaf d) w z e l = absurd (omega (arith, z .1))
   alike (Both c c′) (Left d) w z e l = absurd (omega arith)
   alike (Both c c′) (Right d) w z e l = absurd (omega arith)
   alike (Both c c′) (Both d d′) w z e l = let f : d ≡ c = z .4 ∙ sym (w .4) in let g : d′ ≡ c′ = z .5 ∙ sym (w .5) in ap (λ (i : ℕ). Both i d′) f ∙ ap (Both c) g
   alike (Both c c′) (Many d d′) w z e l = absurd (omega arith)
-  alike (Both c c′) Other w z e l = absurd (omega arith)
+  alike (Both c c′) Wrong w z e l = absurd (omega arith)
   alike (Many c c′) (Leaf d) w z e l = absurd (omega (arith, z .1))
   alike (Many c c′) (Left d) w z e l = absurd (omega arith)
   alike (Many c c′) (Right d) w z e l = absurd (omega arith)
   alike (Many c c′) (Both d d′) w z e l = absurd (omega arith)
   alike (Many c c′) (Many d d′) w z e l = let f : d ≡ c = z .3 ∙ sym (w .3) in (d′, ap (λ (i : ℕ). Many i d′) f)
-  alike (Many c c′) Other w z e l = absurd (omega arith)
-  alike Other (Leaf d) w z e l = absurd (omega (arith, z .1))
-  alike Other (Left d) w z e l = absurd (omega arith)
-  alike Other (Right d) w z e l = absurd (omega arith)
-  alike Other (Both d d′) w z e l = absurd (omega arith)
-  alike Other (Many d d′) w z e l = absurd (omega arith)
-  alike Other Other w z e l = absurd (omega arith)
+  alike (Many c c′) Wrong w z e l = absurd (omega arith)
+  alike Wrong (Leaf d) w z e l = absurd (omega (arith, z .1))
+  alike Wrong (Left d) w z e l = absurd (omega arith)
+  alike Wrong (Right d) w z e l = absurd (omega arith)
+  alike Wrong (Both d d′) w z e l = absurd (omega arith)
+  alike Wrong (Many d d′) w z e l = absurd (omega arith)
+  alike Wrong Wrong w z e l = absurd (omega arith)
 
 -- what is known of two parts by one record, once the shapes of their records are told and both places are moved by one record
 record Meeting (t : List ℕ) (k : ℕ) (bs : List ℕ) (at : ℕ) (cs : List ℕ) (bt : ℕ) (s u : Shape) : Type 0 where
@@ -426,5 +426,5 @@ module _ {t : List ℕ} {k : ℕ} {bs : List ℕ} {at : ℕ} {cs : List ℕ} {bt
     pub no-arm-many : {c m : ℕ} → s ≡ Many c m → ((d n : ℕ) → u ≡ Many d n → ⊥) → ⊥
     no-arm-many {c} {m} g h = let a : (i : ℕ) × (u ≡ Many c i) = met (Many c m) u g refl .both in h c (a .0) (a .1)
 
-    pub no-arm-other : s ≡ Other → ⊥
-    no-arm-other g = met Other u g refl .both
+    pub no-arm-other : s ≡ Wrong → ⊥
+    no-arm-other g = met Wrong u g refl .both

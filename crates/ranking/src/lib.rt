@@ -127,7 +127,7 @@ fn compare_sides(
 }
 
 // The parts that start at two places where they fit, by record k, and which of them ranks ahead. Two such parts have records of one kind, so
-// that `_` stands for Left in the first match and for Right in the second, and the last arm of the third and Other do not occur.
+// that `_` stands for Left in the first match and for Right in the second, and the last arm of the third and Wrong do not occur.
 fn compare_element(
     table: &[u8],
     k: usize,
@@ -162,7 +162,7 @@ fn compare_element(
             _ => same_size(a, b, 0),
         },
         Shape::Leaf(size) => same_size(a, b, size),
-        Shape::Other => same_size(a, b, 0),
+        Shape::Wrong => same_size(a, b, 0),
     }
 }
 

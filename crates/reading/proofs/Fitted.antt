@@ -11,7 +11,7 @@ use Rattle.table.specs.Expression.{expOf}
 use Rattle.reading.specs.declared.Fit.{Fit}
 use Rattle.reading.specs.declared.Fit.the-variants.{Found, Unfit}
 use Rattle.reading.specs.declared.Shape.{Shape}
-use Rattle.reading.specs.declared.Shape.the-variants.{Leaf, Left, Right, Both, Many, Other}
+use Rattle.reading.specs.declared.Shape.the-variants.{Leaf, Left, Right, Both, Many, Wrong}
 use Rattle.reading.specs.Codec.{encode, Decoded, fits, unfit, under, chain, nonEmpty, decodeItems, decode}
 use Rattle.reading.specs.Walks.{leaf, decodeBy, spanOf, fitAt, fitItems}
 use Rattle.reading.specs.Fitted.{Fitted, FittedItems, spanWith}
@@ -60,7 +60,7 @@ module _ (t : List ℕ) (k : ℕ) (bs : List ℕ) (at : ℕ) where
       (record { value = u .0; rest = x .rest; found = u .1 }, u .2, refl)
 
   -- a record that does not fit starts no part
-  pub fitted-other : Shaped t k bs at Other → ¬ (Fitted t k bs at)
+  pub fitted-other : Shaped t k bs at Wrong → ¬ (Fitted t k bs at)
   fitted-other s x = let e : unfit ≡ fits (x .value) (x .rest) = sym (s .decoded) ∙ x .found in let z : _≡_ {A = ℕ} 0 1 = cc in omega arith
 
   -- Stars

@@ -12,7 +12,7 @@ use Rattle.reading.specs.declared.Span.{Span}
 use Rattle.reading.specs.declared.Fit.{Fit}
 use Rattle.reading.specs.declared.Fit.the-variants.{Found, Unfit}
 use Rattle.reading.specs.declared.Shape.{Shape}
-use Rattle.reading.specs.declared.Shape.the-variants.{Leaf, Left, Right, Both, Many, Other}
+use Rattle.reading.specs.declared.Shape.the-variants.{Leaf, Left, Right, Both, Many, Wrong}
 use Rattle.reading.specs.Fitting.{stepped}
 use Rattle.reading.specs.Walks.{shapeAt, fitAt, fitItems, longer, thenFit, unlessEmpty, spellingPart, isFound, fitBy}
 use Rattle.reading.proofs.Walks.{stepped-on, Known, Shaped, shaped, fit-shaped, items-zero, items-suc, Bounds, fit-bounds}
@@ -26,7 +26,7 @@ Seen t k bs at next (Right c) = (next ≤ length bs) × (c < k) × (fitAt t k bs
 Seen t k bs at next (Both c d) =
     (next ≤ length bs) × (c < k) × (d < k) × (fitAt t k bs at ≡ thenFit (fitAt t c bs next) (λ over. fitAt t d bs over))
 Seen t k bs at next (Many c n) = (next ≤ length bs) × (c < k) × (fitAt t k bs at ≡ fitItems t c n bs next)
-Seen t k bs at next Other = fitAt t k bs at ≡ Unfit
+Seen t k bs at next Wrong = fitAt t k bs at ≡ Unfit
 
 seen-shaped :
     (t : List ℕ) (k : ℕ) (bs : List ℕ) (at : ℕ) (s : Shape) → Known t k bs at s → fitAt t k bs at ≡ fitBy t bs at s
@@ -36,7 +36,7 @@ seen-shaped t k bs at (Left c) w e = rw (stepped-on bs at (w .0)) (w .0, w .1, e
 seen-shaped t k bs at (Right c) w e = rw (stepped-on bs at (w .0)) (w .0, w .1, e)
 seen-shaped t k bs at (Both c d) w e = rw (stepped-on bs at (w .0)) (w .0, w .1, w .2, e)
 seen-shaped t k bs at (Many c n) w e = rw (stepped-on bs at (w .0)) (w .0, w .1, e)
-seen-shaped t k bs at Other w e = e
+seen-shaped t k bs at Wrong w e = e
 
 -- a shape that was told by `look` and a place that was moved by `step`
 pub seen :

@@ -4,13 +4,16 @@ use Prim.Native.Nat.{ℕ, zero, suc, _+_, _≤_, _<_}
 use mathlib.Core.Path.{_≡_, refl, sym, _∙_}
 use mathlib.Core.Bool.{Bool, true, false, _&&_}
 use mathlib.Core.List.{List}
+use mathlib.Core.Logic.{_⊎_, inl, inr, ⊎-elim}
 use borrow.Author.Tests.{le-leb, lt-leb, ne-eqb}
 use lib.Dec.{eqb}
 use lib.ListN.{length, getD}
+use Rattle.regex.specs.Expressions.{holds}
 use Rattle.table.specs.Records.{kindAt, aAt, bAt}
+use Rattle.table.specs.Letters.{byteSet}
 use Rattle.reading.specs.declared.Shape.{Shape}
-use Rattle.reading.specs.declared.Shape.the-variants.{Leaf, Left, Right, Both, Many, Other}
-use Rattle.reading.specs.Walks.{pickShape, shapeOf, shapeAt}
+use Rattle.reading.specs.declared.Shape.the-variants.{Leaf, Left, Right, Both, Many, Wrong}
+use Rattle.reading.specs.Walks.{pickShape, letterShape, shapeOf, shapeAt}
 
 -- the second of two tests fails
 not-second : (b : Bool) (y n : ℕ) (s u : Shape) → ¬ (y ≡ n) → pickShape (b && eqb y n) s u ≡ u
@@ -21,23 +24,23 @@ module _ (kind a b x y : ℕ) where
   pub empty-leaf : kind ≡ 1 → x ≡ 0 → y ≡ 0 → Leaf 0 ≡ shapeOf kind a b x y
   empty-leaf k e f = rw (k, e, f)
 
-  pub empty-kind : kind ≡ 1 → ¬ (x ≡ 0) → Other ≡ shapeOf kind a b x y
+  pub empty-kind : kind ≡ 1 → ¬ (x ≡ 0) → Wrong ≡ shapeOf kind a b x y
   empty-kind k e = rw (k, ne-eqb x 0 e)
 
-  pub empty-argument : kind ≡ 1 → ¬ (y ≡ 0) → Other ≡ shapeOf kind a b x y
+  pub empty-argument : kind ≡ 1 → ¬ (y ≡ 0) → Wrong ≡ shapeOf kind a b x y
   empty-argument k e = rw k (sym (not-second (eqb x 0) y 0 _ _ e))
 
-  pub range-leaf : kind ≡ 2 → x ≡ 1 → a ≤ y → y ≤ b → Leaf 1 ≡ shapeOf kind a b x y
-  range-leaf k e l m = rw (k, e, le-leb a y l, le-leb y b m)
+  letter-shape : (kind ≡ 2) ⊎ (kind ≡ 6) → shapeOf kind a b x y ≡ letterShape (byteSet kind a b) x y
+  letter-shape = ⊎-elim (λ (k : kind ≡ 2). rw k) (λ (k : kind ≡ 6). rw k)
 
-  pub range-kind : kind ≡ 2 → ¬ (x ≡ 1) → Other ≡ shapeOf kind a b x y
-  range-kind k e = rw (k, ne-eqb x 1 e)
+  pub letter-leaf : (kind ≡ 2) ⊎ (kind ≡ 6) → x ≡ 1 → holds (byteSet kind a b) y ≡ true → Leaf 1 ≡ shapeOf kind a b x y
+  letter-leaf k e h = rw (letter-shape k) (rw (e, h))
 
-  pub range-low : kind ≡ 2 → x ≡ 1 → y < a → Other ≡ shapeOf kind a b x y
-  range-low k e l = rw (k, e, lt-leb a y l)
+  pub letter-kind : (kind ≡ 2) ⊎ (kind ≡ 6) → ¬ (x ≡ 1) → Wrong ≡ shapeOf kind a b x y
+  letter-kind k e = rw (letter-shape k) (rw (ne-eqb x 1 e))
 
-  pub range-high : kind ≡ 2 → x ≡ 1 → a ≤ y → b < y → Other ≡ shapeOf kind a b x y
-  range-high k e l m = rw (k, e, le-leb a y l, lt-leb y b m)
+  pub letter-argument : (kind ≡ 2) ⊎ (kind ≡ 6) → x ≡ 1 → holds (byteSet kind a b) y ≡ false → Wrong ≡ shapeOf kind a b x y
+  letter-argument k e h = rw (letter-shape k) (rw (e, h))
 
   pub or-left : kind ≡ 3 → y ≡ 0 → x ≡ 2 → Left a ≡ shapeOf kind a b x y
   or-left k f e = rw (k, e, f)
@@ -45,39 +48,41 @@ module _ (kind a b x y : ℕ) where
   pub or-right : kind ≡ 3 → y ≡ 0 → x ≡ 3 → Right b ≡ shapeOf kind a b x y
   or-right k f e = rw (k, e, f)
 
-  pub or-kind : kind ≡ 3 → ¬ (x ≡ 2) → ¬ (x ≡ 3) → Other ≡ shapeOf kind a b x y
+  pub or-kind : kind ≡ 3 → ¬ (x ≡ 2) → ¬ (x ≡ 3) → Wrong ≡ shapeOf kind a b x y
   or-kind k e f = rw (k, ne-eqb x 2 e, ne-eqb x 3 f)
 
-  pub or-argument : kind ≡ 3 → ¬ (y ≡ 0) → Other ≡ shapeOf kind a b x y
+  pub or-argument : kind ≡ 3 → ¬ (y ≡ 0) → Wrong ≡ shapeOf kind a b x y
   or-argument k e = rw k (sym (not-second (eqb x 2) y 0 _ _ e ∙ not-second (eqb x 3) y 0 _ _ e))
 
   pub seq-both : kind ≡ 4 → x ≡ 4 → y ≡ 0 → Both a b ≡ shapeOf kind a b x y
   seq-both k e f = rw (k, e, f)
 
-  pub seq-kind : kind ≡ 4 → ¬ (x ≡ 4) → Other ≡ shapeOf kind a b x y
+  pub seq-kind : kind ≡ 4 → ¬ (x ≡ 4) → Wrong ≡ shapeOf kind a b x y
   seq-kind k e = rw (k, ne-eqb x 4 e)
 
-  pub seq-argument : kind ≡ 4 → ¬ (y ≡ 0) → Other ≡ shapeOf kind a b x y
+  pub seq-argument : kind ≡ 4 → ¬ (y ≡ 0) → Wrong ≡ shapeOf kind a b x y
   seq-argument k e = rw k (sym (not-second (eqb x 4) y 0 _ _ e))
 
   pub star-many : kind ≡ 5 → x ≡ 5 → Many a y ≡ shapeOf kind a b x y
   star-many k e = rw (k, e)
 
-  pub star-kind : kind ≡ 5 → ¬ (x ≡ 5) → Other ≡ shapeOf kind a b x y
+  pub star-kind : kind ≡ 5 → ¬ (x ≡ 5) → Wrong ≡ shapeOf kind a b x y
   star-kind k e = rw (k, ne-eqb x 5 e)
 
-pub other-kind :
-    (kind a b x y : ℕ) → ¬ (kind ≡ 1) → ¬ (kind ≡ 2) → ¬ (kind ≡ 3) → ¬ (kind ≡ 4) → ¬ (kind ≡ 5) → Other ≡ shapeOf kind a b x y
-other-kind zero a b x y n1 n2 n3 n4 n5 = refl
-other-kind (suc zero) a b x y n1 n2 n3 n4 n5 = absurd (n1 refl)
-other-kind (suc (suc zero)) a b x y n1 n2 n3 n4 n5 = absurd (n2 refl)
-other-kind (suc (suc (suc zero))) a b x y n1 n2 n3 n4 n5 = absurd (n3 refl)
-other-kind (suc (suc (suc (suc zero)))) a b x y n1 n2 n3 n4 n5 = absurd (n4 refl)
-other-kind (suc (suc (suc (suc (suc zero))))) a b x y n1 n2 n3 n4 n5 = absurd (n5 refl)
-other-kind (suc (suc (suc (suc (suc (suc n)))))) a b x y n1 n2 n3 n4 n5 = refl
+pub no-kind :
+    (kind a b x y : ℕ) → ¬ (kind ≡ 1) → ¬ ((kind ≡ 2) ⊎ (kind ≡ 6)) → ¬ (kind ≡ 3) → ¬ (kind ≡ 4) → ¬ (kind ≡ 5)
+    → Wrong ≡ shapeOf kind a b x y
+no-kind zero a b x y n1 n2 n3 n4 n5 = refl
+no-kind (suc zero) a b x y n1 n2 n3 n4 n5 = absurd (n1 refl)
+no-kind (suc (suc zero)) a b x y n1 n2 n3 n4 n5 = absurd (n2 (inl refl))
+no-kind (suc (suc (suc zero))) a b x y n1 n2 n3 n4 n5 = absurd (n3 refl)
+no-kind (suc (suc (suc (suc zero)))) a b x y n1 n2 n3 n4 n5 = absurd (n4 refl)
+no-kind (suc (suc (suc (suc (suc zero))))) a b x y n1 n2 n3 n4 n5 = absurd (n5 refl)
+no-kind (suc (suc (suc (suc (suc (suc zero)))))) a b x y n1 n2 n3 n4 n5 = absurd (n2 (inr refl))
+no-kind (suc (suc (suc (suc (suc (suc (suc n))))))) a b x y n1 n2 n3 n4 n5 = refl
 
 -- the shape of the record at a place: none where less than a record is left
-pub look-short : (t : List ℕ) (k : ℕ) (bs : List ℕ) (at : ℕ) → length bs < at + 2 → Other ≡ shapeAt t k bs at
+pub look-short : (t : List ℕ) (k : ℕ) (bs : List ℕ) (at : ℕ) → length bs < at + 2 → Wrong ≡ shapeAt t k bs at
 unfolding shapeAt
 look-short t k bs at h = rw (lt-leb (at + 2) (length bs) h)
 

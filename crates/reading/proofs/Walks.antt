@@ -11,21 +11,21 @@ use borrow.Author.Tests.{le-leb, lt-leb, leb-true, leb-false}
 use lib.Dec.{eqb, leb}
 use lib.ListN.{length, getD, drop, length-append, length-drop}
 use lib.Seq.{drop-cons, drop-drop, drop-append-seam}
-use Rattle.regex.specs.Expressions.{Exp, nothing, empty, letter, or, seq, star, within, holds}
+use Rattle.regex.specs.Expressions.{ByteSet, within, outside, holds, Exp, nothing, empty, letter, or, seq, star}
 use Rattle.regex.specs.Values.{Val, void, byte, left, right, pair, none, more, flat, Reads}
 use Rattle.table.specs.Records.{count, kindAt, aAt, bAt}
 use Rattle.table.specs.Faults.{Passes}
 use Rattle.table.specs.Expression.{expOf}
 use Rattle.table.proofs.Laws.{exp-nothing, exp-empty, exp-letter, exp-or, exp-seq, exp-star}
-use Rattle.table.proofs.Passing.{kind-small, a-below, b-below, star-a-below}
+use Rattle.table.proofs.Passing.{letter-at, kind-small, a-below, b-below, star-a-below}
 use Rattle.reading.specs.declared.Span.{Span}
 use Rattle.reading.specs.declared.Fit.{Fit}
 use Rattle.reading.specs.declared.Fit.the-variants.{Found, Unfit}
 use Rattle.reading.specs.declared.Shape.{Shape}
-use Rattle.reading.specs.declared.Shape.the-variants.{Leaf, Left, Right, Both, Many, Other}
+use Rattle.reading.specs.declared.Shape.the-variants.{Leaf, Left, Right, Both, Many, Wrong}
 use Rattle.reading.specs.Codec.{encode, encodeItems, Decoded, fits, unfit, under, chain, pick, nonEmpty, decodeItems, atRecord, decode}
 use Rattle.reading.specs.Fitting.{stepped}
-use Rattle.reading.specs.Walks.{pickShape, shapeOf, shapeAt, leaf, decodeBy, spanOf, fitAt, fitItems, longer, thenFit, unlessEmpty, spellingPart, fitBy}
+use Rattle.reading.specs.Walks.{pickShape, letterShape, shapeOf, shapeAt, leaf, decodeBy, spanOf, fitAt, fitItems, longer, thenFit, unlessEmpty, spellingPart, fitBy}
 use Rattle.reading.proofs.Codec.{decode-sound}
 use Rattle.reading.proofs.Lengths.{encode-length, flat-records, records-some}
 
@@ -134,7 +134,7 @@ Known t k bs at (Left c) = (at + 2 ≤ length bs) × (c < k) × (kindAt t k ≡ 
 Known t k bs at (Right c) = (at + 2 ≤ length bs) × (c < k) × (kindAt t k ≡ 3) × (c ≡ bAt t k)
 Known t k bs at (Both c d) = (at + 2 ≤ length bs) × (c < k) × (d < k) × (kindAt t k ≡ 4) × (c ≡ aAt t k) × (d ≡ bAt t k)
 Known t k bs at (Many c n) = (at + 2 ≤ length bs) × (c < k) × (kindAt t k ≡ 5) × (c ≡ aAt t k) × (n ≡ getD bs (at + 1) 0)
-Known t k bs at Other = Unit {0}
+Known t k bs at Wrong = Unit {0}
 
 -- the shape of a place's record: what is known of it, and what decoding finds there
 pub record Shaped (t : List ℕ) (k : ℕ) (bs : List ℕ) (at : ℕ) (s : Shape) : Type 0 where
@@ -159,6 +159,18 @@ module _ (t : List ℕ) (p : Passes t) (k : ℕ) (l : k < count t) (bs : List �
   picked true x y s u e f = e
   picked false x y s u e f = f
 
+  -- where a record is left, at a letter
+  full-letter :
+      (s : ByteSet) → at + 2 ≤ length bs → expOf t k ≡ letter s
+      → (decode (expOf t k) (getD bs at 0 ∷ getD bs (at + 1) 0 ∷ drop (at + 2) bs)
+      ≡ decodeBy t bs at (letterShape s (getD bs at 0) (getD bs (at + 1) 0)))
+      × Known t k bs at (letterShape s (getD bs at 0) (getD bs (at + 1) 0))
+  full-letter s h e =
+      rw e
+      (picked (eqb (getD bs at 0) 1 && holds s (getD bs (at + 1) 0)) (fits (byte (getD bs (at + 1) 0)) (drop (at + 2) bs)) unfit (Leaf 1) Wrong
+      (refl, (h, omega arith))
+      (refl, tt))
+
   -- where a record is left
   full :
       at + 2 ≤ length bs → (kind : ℕ) → kindAt t k ≡ kind
@@ -168,46 +180,42 @@ module _ (t : List ℕ) (p : Passes t) (k : ℕ) (l : k < count t) (bs : List �
   full h zero e = rw (exp-nothing t k e) (refl, tt)
   full h (suc zero) e =
       rw (exp-empty t k e)
-      (picked (eqb (getD bs at 0) 0 && eqb (getD bs (at + 1) 0) 0) (fits void (drop (at + 2) bs)) unfit (Leaf 0) Other
+      (picked (eqb (getD bs at 0) 0 && eqb (getD bs (at + 1) 0) 0) (fits void (drop (at + 2) bs)) unfit (Leaf 0) Wrong
       (refl, (h, omega arith))
       (refl, tt))
-  full h (suc (suc zero)) e =
-      rw (exp-letter t k e)
-      (picked (eqb (getD bs at 0) 1 && holds (within (aAt t k) (bAt t k)) (getD bs (at + 1) 0))
-      (fits (byte (getD bs (at + 1) 0)) (drop (at + 2) bs)) unfit (Leaf 1) Other
-      (refl, (h, omega arith))
-      (refl, tt))
+  full h (suc (suc zero)) e = full-letter (within (aAt t k) (bAt t k)) h (exp-letter t k (letter-at t k refl (inl e)) ∙ rw e)
   full h (suc (suc (suc zero))) e =
       let a : aAt t k < k = a-below t p k l (inl e) in
       let b : bAt t k < k = b-below t p k l (inl e) in
       rw (exp-or t k e a b)
       (picked (eqb (getD bs at 0) 2 && eqb (getD bs (at + 1) 0) 0) (under left (decode (expOf t (aAt t k)) (drop (at + 2) bs)))
       (pick (eqb (getD bs at 0) 3 && eqb (getD bs (at + 1) 0) 0) (under right (decode (expOf t (bAt t k)) (drop (at + 2) bs))) unfit)
-      (Left (aAt t k)) (pickShape (eqb (getD bs at 0) 3 && eqb (getD bs (at + 1) 0) 0) (Right (bAt t k)) Other)
+      (Left (aAt t k)) (pickShape (eqb (getD bs at 0) 3 && eqb (getD bs (at + 1) 0) 0) (Right (bAt t k)) Wrong)
       (refl, (h, a, e, refl))
       (picked (eqb (getD bs at 0) 3 && eqb (getD bs (at + 1) 0) 0) (under right (decode (expOf t (bAt t k)) (drop (at + 2) bs))) unfit
-      (Right (bAt t k)) Other (refl, (h, b, e, refl)) (refl, tt)))
+      (Right (bAt t k)) Wrong (refl, (h, b, e, refl)) (refl, tt)))
   full h (suc (suc (suc (suc zero)))) e =
       let a : aAt t k < k = a-below t p k l (inr e) in
       let b : bAt t k < k = b-below t p k l (inr e) in
       rw (exp-seq t k e a b)
       (picked (eqb (getD bs at 0) 4 && eqb (getD bs (at + 1) 0) 0)
-      (chain pair (decode (expOf t (aAt t k)) (drop (at + 2) bs)) (λ o. decode (expOf t (bAt t k)) o)) unfit (Both (aAt t k) (bAt t k)) Other
+      (chain pair (decode (expOf t (aAt t k)) (drop (at + 2) bs)) (λ o. decode (expOf t (bAt t k)) o)) unfit (Both (aAt t k) (bAt t k)) Wrong
       (refl, (h, a, b, e, refl, refl))
       (refl, tt))
   full h (suc (suc (suc (suc (suc zero))))) e =
       let a : aAt t k < k = star-a-below t p k l e in
       rw (exp-star t k e a)
       (picked (eqb (getD bs at 0) 5) (decodeItems (λ o. decode (expOf t (aAt t k)) o) (getD bs (at + 1) 0) (drop (at + 2) bs)) unfit
-      (Many (aAt t k) (getD bs (at + 1) 0)) Other (refl, (h, a, e, refl, refl)) (refl, tt))
-  full h (suc (suc (suc (suc (suc (suc n)))))) e = absurd (omega (arith, kind-small t p k l))
+      (Many (aAt t k) (getD bs (at + 1) 0)) Wrong (refl, (h, a, e, refl, refl)) (refl, tt))
+  full h (suc (suc (suc (suc (suc (suc zero)))))) e = full-letter (outside (aAt t k) (bAt t k)) h (exp-letter t k (letter-at t k refl (inr e)) ∙ rw e)
+  full h (suc (suc (suc (suc (suc (suc (suc n))))))) e = absurd (omega (arith, kind-small t p k l))
 
   -- the shape of the record at a place says what decoding finds there
   pub shaped : Shaped t k bs at (shapeAt t k bs at)
   unfolding shapeAt
   shaped = go (leb (at + 2) (length bs)) refl
     where
-      go : (b : Bool) → leb (at + 2) (length bs) ≡ b → Shaped t k bs at (pickShape b (shapeOf (kindAt t k) (aAt t k) (bAt t k) (getD bs at 0) (getD bs (at + 1) 0)) Other)
+      go : (b : Bool) → leb (at + 2) (length bs) ≡ b → Shaped t k bs at (pickShape b (shapeOf (kindAt t k) (aAt t k) (bAt t k) (getD bs at 0) (getD bs (at + 1) 0)) Wrong)
       go true e =
           let f : at + 2 ≤ length bs = leb-true _ _ e in
           record { known = full f (kindAt t k) refl .1; decoded = rw (drop-record bs at f) (full f (kindAt t k) refl .0) }
@@ -237,7 +245,7 @@ span-by t k bs at (Both c d) w =
     span-chain pair (λ v u. refl) bs (at + 2) (decode (expOf t c) (drop (at + 2) bs)) (λ o. decode (expOf t d) o)
     (λ v rest e. decode-over (expOf t c) bs (at + 2) (w .0) v rest e)
 span-by t k bs at (Many c n) w = refl
-span-by t k bs at Other w = refl
+span-by t k bs at Wrong w = refl
 
 -- the part that starts at a place by the shape of its record
 pub fit-shaped : (t : List ℕ) (k : ℕ) (bs : List ℕ) (at : ℕ) (s : Shape) → Shaped t k bs at s → fitAt t k bs at ≡ fitBy t bs at s

@@ -5,6 +5,7 @@ use mathlib.Core.Bool.{Bool, true, false, _&&_}
 use mathlib.Core.List.{List}
 use lib.Dec.{eqb, leb}
 use lib.ListN.{length, getD, drop}
+use Rattle.regex.specs.Expressions.{ByteSet, within, outside, holds}
 use Rattle.regex.specs.Values.{void, byte, left, right, pair, flat}
 use Rattle.regex.specs.Decision.{Parsed, found, missing}
 use Rattle.table.specs.Records.{kindAt, aAt, bAt}
@@ -13,7 +14,7 @@ use Rattle.reading.specs.declared.Span.{Span}
 use Rattle.reading.specs.declared.Fit.{Fit}
 use Rattle.reading.specs.declared.Fit.the-variants.{Found, Unfit}
 use Rattle.reading.specs.declared.Shape.{Shape}
-use Rattle.reading.specs.declared.Shape.the-variants.{Leaf, Left, Right, Both, Many, Other}
+use Rattle.reading.specs.declared.Shape.the-variants.{Leaf, Left, Right, Both, Many, Wrong}
 use Rattle.reading.specs.declared.Whole.{Whole}
 use Rattle.reading.specs.declared.Whole.the-variants.{Spells, Misfit}
 use Rattle.reading.specs.Fitting.{readingOf}
@@ -23,21 +24,26 @@ abbrev pub pickShape : Bool → Shape → Shape → Shape
 pickShape true x y = x
 pickShape false x y = y
 
+-- the shape of a reading's record x, y by a letter: a Byte whose argument the letter holds
+abbrev pub letterShape : ByteSet → ℕ → ℕ → Shape
+letterShape s x y = pickShape (eqb x 1 && holds s y) (Leaf 1) Wrong
+
 -- the shape of a reading's record x, y by a table record of a kind, a, b
 abbrev pub shapeOf : ℕ → ℕ → ℕ → ℕ → ℕ → Shape
-shapeOf zero a b x y = Other
-shapeOf (suc zero) a b x y = pickShape (eqb x 0 && eqb y 0) (Leaf 0) Other
-shapeOf (suc (suc zero)) a b x y = pickShape (eqb x 1 && (leb a y && leb y b)) (Leaf 1) Other
+shapeOf zero a b x y = Wrong
+shapeOf (suc zero) a b x y = pickShape (eqb x 0 && eqb y 0) (Leaf 0) Wrong
+shapeOf (suc (suc zero)) a b x y = letterShape (within a b) x y
 shapeOf (suc (suc (suc zero))) a b x y =
-    pickShape (eqb x 2 && eqb y 0) (Left a) (pickShape (eqb x 3 && eqb y 0) (Right b) Other)
-shapeOf (suc (suc (suc (suc zero)))) a b x y = pickShape (eqb x 4 && eqb y 0) (Both a b) Other
-shapeOf (suc (suc (suc (suc (suc zero))))) a b x y = pickShape (eqb x 5) (Many a y) Other
-shapeOf (suc (suc (suc (suc (suc (suc n)))))) a b x y = Other
+    pickShape (eqb x 2 && eqb y 0) (Left a) (pickShape (eqb x 3 && eqb y 0) (Right b) Wrong)
+shapeOf (suc (suc (suc (suc zero)))) a b x y = pickShape (eqb x 4 && eqb y 0) (Both a b) Wrong
+shapeOf (suc (suc (suc (suc (suc zero))))) a b x y = pickShape (eqb x 5) (Many a y) Wrong
+shapeOf (suc (suc (suc (suc (suc (suc zero)))))) a b x y = letterShape (outside a b) x y
+shapeOf (suc (suc (suc (suc (suc (suc (suc n))))))) a b x y = Wrong
 
 -- the shape of the record at a place, by table record k
 unfoldable pub shapeAt : List ℕ → ℕ → List ℕ → ℕ → Shape
 shapeAt t k bs at =
-    pickShape (leb (at + 2) (length bs)) (shapeOf (kindAt t k) (aAt t k) (bAt t k) (getD bs at 0) (getD bs (at + 1) 0)) Other
+    pickShape (leb (at + 2) (length bs)) (shapeOf (kindAt t k) (aAt t k) (bAt t k) (getD bs at 0) (getD bs (at + 1) 0)) Wrong
 
 -- a reading of one record that spells n bytes, by its argument
 abbrev pub leaf : ℕ → ℕ → List ℕ → Decoded
@@ -52,7 +58,7 @@ decodeBy t bs at (Left c) = under left (decode (expOf t c) (drop (at + 2) bs))
 decodeBy t bs at (Right c) = under right (decode (expOf t c) (drop (at + 2) bs))
 decodeBy t bs at (Both c d) = chain pair (decode (expOf t c) (drop (at + 2) bs)) (λ over. decode (expOf t d) over)
 decodeBy t bs at (Many c n) = decodeItems (λ over. decode (expOf t c) over) n (drop (at + 2) bs)
-decodeBy t bs at Other = unfit
+decodeBy t bs at Wrong = unfit
 
 -- the part that decoding found, in a reading of n bytes
 abbrev pub spanOf : ℕ → Decoded → Fit
@@ -98,7 +104,7 @@ fitBy t bs at (Left c) = fitAt t c bs (at + 2)
 fitBy t bs at (Right c) = fitAt t c bs (at + 2)
 fitBy t bs at (Both c d) = thenFit (fitAt t c bs (at + 2)) (λ next. fitAt t d bs next)
 fitBy t bs at (Many c n) = fitItems t c n bs (at + 2)
-fitBy t bs at Other = Unfit
+fitBy t bs at Wrong = Unfit
 
 -- how many bytes a whole reading spells
 abbrev pub sized : Parsed → Whole

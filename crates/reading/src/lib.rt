@@ -40,7 +40,7 @@ pub enum Shape {
     Right(usize),
     Both(usize, usize),
     Many(usize, usize),
-    Other,
+    Wrong,
 }
 
 // What a whole byte sequence is: a reading that spells so many bytes, or one that does not fit.
@@ -76,17 +76,15 @@ fn shape_of(kind: u8, a: u8, b: u8, x: u8, y: u8) -> Shape
                     return Shape::Leaf(0);
                 }
             }
-            Shape::Other
+            Shape::Wrong
         }
-        2 => {
+        2 | 6 => {
             if x == 1 {
-                if a <= y {
-                    if y <= b {
-                        return Shape::Leaf(1);
-                    }
+                if table::letter_holds(kind, a, b, y) {
+                    return Shape::Leaf(1);
                 }
             }
-            Shape::Other
+            Shape::Wrong
         }
         3 => {
             if y == 0 {
@@ -97,7 +95,7 @@ fn shape_of(kind: u8, a: u8, b: u8, x: u8, y: u8) -> Shape
                     return Shape::Right(b as usize);
                 }
             }
-            Shape::Other
+            Shape::Wrong
         }
         4 => {
             if y == 0 {
@@ -105,15 +103,15 @@ fn shape_of(kind: u8, a: u8, b: u8, x: u8, y: u8) -> Shape
                     return Shape::Both(a as usize, b as usize);
                 }
             }
-            Shape::Other
+            Shape::Wrong
         }
         5 => {
             if x == 5 {
                 return Shape::Many(a as usize, y as usize);
             }
-            Shape::Other
+            Shape::Wrong
         }
-        _ => Shape::Other,
+        _ => Shape::Wrong,
     }
 }
 
@@ -125,10 +123,10 @@ pub fn look(table: &[u8], k: usize, reading: &[u8], place: Place) -> Shape
     let at = place.at;
     let n = reading.len();
     if n <= at {
-        return Shape::Other;
+        return Shape::Wrong;
     }
     if n - at < 2 {
-        return Shape::Other;
+        return Shape::Wrong;
     }
     let kind = table::kind_at(table, k);
     let a = table::a_at(table, k);
@@ -167,7 +165,7 @@ fn fit_element(table: &[u8], k: usize, reading: &[u8], place: Place) -> Fit
             Fit::Unfit => Fit::Unfit,
         },
         Shape::Many(c, n) => fit_iterations(table, c, n, reading, next),
-        Shape::Other => Fit::Unfit,
+        Shape::Wrong => Fit::Unfit,
     }
 }
 
@@ -234,7 +232,7 @@ pub fn part_length(table: &[u8], k: usize, reading: &[u8], place: Place) -> Span
             Span { next: at, size }
         }
         // A part that fits has no such record.
-        Shape::Other => Span { next, size: 0 },
+        Shape::Wrong => Span { next, size: 0 },
     }
 }
 

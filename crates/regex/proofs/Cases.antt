@@ -1,4 +1,4 @@
--- The cases of document 01's bench follow from the definitions: one computation over the whole list, and what it means for each case.
+-- The cases of the bench follow from the definitions: one computation over the whole list, and what it means for each case.
 -- Assumes nothing.
 use Prim.Native.Nat.{ℕ}
 use mathlib.Core.Path.{_≡_, refl}
@@ -12,7 +12,7 @@ use Rattle.regex.specs.Bench.{Case, reads-as, ranks-as, computed, stated
 use Rattle.regex.proofs.Parse.{parse-sound, parse-missing}
 use Rattle.regex.proofs.Ranks.{rank-view}
 
--- every case comes out as the document states it
+-- every case comes out as it is stated
 pub cases-hold : map computed cases ≡ map stated cases
 cases-hold = refl
 

@@ -8,6 +8,7 @@ pub mod Ranks
 pub mod Sizes
 pub mod Languages
 pub mod Spells
+pub mod Bytes
 pub mod Parse
 pub mod Found
 pub mod Count

@@ -1,9 +1,10 @@
--- Document 01's lines on the bench, as expressions and values: T1, T2, T3 and the cases A to D (D's reading), E, F, G and I.
+-- Document 01's lines on the bench, as expressions and values: T1, T2, T3 and the cases A to D (D's reading), E, F, G and I; and lines for the
+-- letters, Other among them (document 02, request 1).
 -- Assumes nothing.
 use Prim.Native.Nat.{ℕ}
 use mathlib.Core.Path.{_≡_}
 use mathlib.Core.List.{List, [], _∷_}
-use Rattle.regex.specs.Expressions.{within, Exp, empty, letter, or, seq, star}
+use Rattle.regex.specs.Expressions.{within, outside, Exp, empty, letter, or, seq, star}
 use Rattle.regex.specs.Values.{Val, void, byte, left, right, pair, none, more, flat, Reads}
 use Rattle.regex.specs.Language.{L}
 use Rattle.regex.specs.Relation.{Posix}
@@ -25,6 +26,17 @@ T2 = seq (or (only 0x61) empty) (or (only 0x62) (seq (only 0x61) (only 0x62)))
 -- T3, ε*
 abbrev pub T3 : Exp
 T3 = star empty
+
+-- a remark and its semicolon: Other from ; to ; under a Star, then the semicolon
+abbrev pub Remark : Exp
+Remark = seq (star (letter (outside 0x3b 0x3b))) (only 0x3b)
+
+-- every byte but 5, and no byte at all
+abbrev pub AllBut5 : Exp
+AllBut5 = letter (outside 5 5)
+
+abbrev pub NoByte : Exp
+NoByte = letter (outside 0 255)
 
 -- the three alternatives of T1, as an iteration reads them
 abbrev a : Val
@@ -53,7 +65,7 @@ pub data Outcome : Type 0 where
   reading : Parsed → Outcome
   verdict : Verdict → Outcome
 
--- what the document states for the case
+-- what is stated for the case
 abbrev pub stated : Case → Outcome
 stated (reads-as r s p) = reading p
 stated (ranks-as r v w d) = verdict d
@@ -79,4 +91,20 @@ cases =
     ∷ reads-as T2 (0x61 ∷ 0x62 ∷ []) (found F-reading)
     ∷ ranks-as T2 F-reading G-rival first
     ∷ reads-as T3 [] (found none)
+    -- Other
+    ∷ reads-as Remark (0x61 ∷ 0x62 ∷ 0x3b ∷ []) (found (pair (more (byte 0x61) (more (byte 0x62) none)) (byte 0x3b)))
+    ∷ reads-as Remark (0x3b ∷ []) (found (pair none (byte 0x3b)))
+    ∷ reads-as Remark (0x61 ∷ 0x3b ∷ 0x62 ∷ 0x3b ∷ []) missing
+    ∷ reads-as AllBut5 (4 ∷ []) (found (byte 4))
+    ∷ reads-as AllBut5 (5 ∷ []) missing
+    ∷ reads-as AllBut5 (6 ∷ []) (found (byte 6))
+    ∷ reads-as (letter (outside 5 7)) (7 ∷ []) missing
+    ∷ reads-as NoByte [] missing
+    ∷ reads-as NoByte (0 ∷ []) missing
+    ∷ reads-as NoByte (255 ∷ []) missing
+    -- no letter holds a number that is no byte
+    ∷ reads-as NoByte (256 ∷ []) missing
+    ∷ reads-as AllBut5 (255 ∷ []) (found (byte 255))
+    ∷ reads-as AllBut5 (256 ∷ []) missing
+    ∷ reads-as (letter (within 0 256)) (256 ∷ []) missing
     ∷ []

@@ -1,11 +1,16 @@
 -- The language of an expression, the set of lines that it spells: L of 001.
 -- Assumes nothing.
-use Prim.Native.Nat.{ℕ}
+use Prim.Native.Nat.{ℕ, _<_}
 use mathlib.Core.Path.{_≡_}
 use mathlib.Core.Bool.{true}
 use mathlib.Core.List.{List, [], _∷_, _++_}
 use mathlib.Core.Logic.{_⊎_}
+use lib.ListN.{length, getD}
 use Rattle.regex.specs.Expressions.{holds, Exp, nothing, empty, letter, or, seq, star}
+
+-- a list of bytes. Lines are lists of numbers here, and every line of L is one (regex.proofs.Bytes)
+abbrev pub Bytes : List ℕ → Type 0
+Bytes s = (i : ℕ) → i < length s → getD s i 0 < 256
 
 -- 001's A @ B: s is s1 then s2, s1 in A and s2 in B
 pub record Parts (A B : List ℕ → Type 0) (s : List ℕ) : Type 0 where

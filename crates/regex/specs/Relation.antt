@@ -1,4 +1,5 @@
--- The POSIX value relation, s : r → v of document 01, "The relation": its four rules, one or two constructors for each.
+-- The POSIX value relation, s : r → v of document 01, "The relation": its four rules, one or two constructors for each, and the letter rule of
+-- document 02, request 1.
 -- Assumes nothing.
 use Prim.Native.Nat.{ℕ}
 use mathlib.Core.Path.{_≡_}
@@ -16,7 +17,7 @@ Longest A B s1 s2 = (s3 s4 : List ℕ) → s2 ≡ s3 ++ s4 → ¬ (s3 ≡ []) �
 pub data Posix : List ℕ → Exp → Val → Type 0 where
   -- "Empty: the empty line gives Void."
   posix-void : {s : List ℕ} → s ≡ [] → Posix s empty void
-  -- "Range: the line of one byte c in it gives Byte c."
+  -- "Range: the line of one byte c in it gives Byte c." So does Other, the other letter: "Its reading is a Byte record."
   posix-byte : {s : List ℕ} {b : ByteSet} {c : ℕ} → holds b c ≡ true → s ≡ c ∷ [] → Posix s (letter b) (byte c)
   -- "Or: Left v if s : r1 → v."
   posix-left : {s : List ℕ} {r1 r2 : Exp} {v : Val} → Posix s r1 v → Posix s (or r1 r2) (left v)

@@ -4,13 +4,18 @@ use Prim.Native.Nat.{ℕ, zero, suc, _<_}
 use native.Mathlib.Omega.{arith}
 use native.Mathlib.Nat.{eq-or-lt-of-le}
 use mathlib.Core.Path.{_≡_, refl, _∙_}
-use mathlib.Core.Logic.{⊎-elim}
-use mathlib.Core.List.{List, []}
+use mathlib.Core.Logic.{_⊎_, ⊎-elim, _↔_}
+use mathlib.Core.Bool.{true}
+use mathlib.Core.List.{List, [], _∷_}
 use lib.ListN.{length, getD, length-append, List·getD-append}
 use lib.Seq.{getD-at}
-use Rattle.regex.specs.Expressions.{within, nothing, empty, letter, or, seq, star}
-use Rattle.table.specs.Records.{kindAt, aAt, bAt}
+use Rattle.regex.specs.Expressions.{nothing, empty, letter, or, seq, star}
+use Rattle.regex.specs.Language.{L}
+use Rattle.regex.proofs.Bytes.{outside-holds}
+use Rattle.table.specs.Records.{kindAt, aAt, bAt, isLetter}
 use Rattle.table.specs.Expression.{below, expOf}
+use Rattle.table.specs.Letters.{byteSetAt}
+use Rattle.table.proofs.Passing.{letter-kinds}
 
 below-length : (t : List ℕ) (k : ℕ) → length (below t k) ≡ k
 unfolding below
@@ -42,9 +47,26 @@ pub exp-empty : (t : List ℕ) (k : ℕ) → kindAt t k ≡ 1 → expOf t k ≡ 
 unfolding expOf
 exp-empty t k e = rw e
 
-pub exp-letter : (t : List ℕ) (k : ℕ) → kindAt t k ≡ 2 → expOf t k ≡ letter (within (aAt t k) (bAt t k))
+pub exp-letter : (t : List ℕ) (k : ℕ) → isLetter t k ≡ true → expOf t k ≡ letter (byteSetAt t k)
 unfolding expOf
-exp-letter t k e = rw e
+exp-letter t k e = ⊎-elim (λ (z : kindAt t k ≡ 2). rw z) (λ (z : kindAt t k ≡ 6). rw z) (letter-kinds t k e)
+
+-- document 02, request 1: an Other spells just the lines of "one byte c with c < a or c > b"
+pub other-spells :
+    (t : List ℕ) (k : ℕ) → kindAt t k ≡ 6 → (s : List ℕ)
+    → L (expOf t k) s ↔ ((c : ℕ) × (c < 256) × ((c < aAt t k) ⊎ (bAt t k < c)) × (s ≡ c ∷ []))
+unfolding expOf
+other-spells t k e s =
+    rw e (
+      λ l. let p = outside-holds (aAt t k) (bAt t k) (l .0) .0 (l .1) in (l .0, p .0, p .1, l .2),
+      λ p. (p .0, outside-holds (aAt t k) (bAt t k) (p .0) .1 (p .1, p .2), p .3),
+    )
+
+-- "With a = 0 and b = 255 it spells no line": every byte lies within these bounds
+pub other-none : (t : List ℕ) (k : ℕ) → kindAt t k ≡ 6 → aAt t k ≡ 0 → bAt t k ≡ 255 → (s : List ℕ) → ¬ (L (expOf t k) s)
+other-none t k e f g s l =
+    let p = other-spells t k e s .0 l in
+    ⊎-elim (λ (low : p .0 < aAt t k). omega (arith, f)) (λ (high : bAt t k < p .0). omega (arith, g, p .1)) (p .2)
 
 pub exp-or : (t : List ℕ) (k : ℕ) → kindAt t k ≡ 3 → aAt t k < k → bAt t k < k → expOf t k ≡ or (expOf t (aAt t k)) (expOf t (bAt t k))
 unfolding expOf

@@ -7,4 +7,5 @@ pub mod UpTo
 pub mod Checking
 mod Own
 mod Naming
+mod Letters
 mod Scan

@@ -8,7 +8,7 @@ use mathlib.Core.Logic.{_⊎_, inl, inr, ⊎-elim}
 use mathlib.Core.Bool.{Bool, false, not, _||_, or-false}
 use mathlib.Core.List.{List}
 use lib.Dec.{ltb, eqb}
-use borrow.Author.Tests.{lt-ltb, le-ltb, eq-eqb, ne-eqb}
+use borrow.Author.Tests.{le-leb, lt-ltb, le-ltb, eq-eqb, ne-eqb}
 use Rattle.table.specs.Records.{kindAt, aAt, bAt}
 use Rattle.table.specs.Answers.{Said, refuses}
 use Rattle.table.specs.Checked.{orElse}
@@ -22,6 +22,10 @@ or-both x y e f = rw (e, f)
 either : (n kind : ℕ) → n ≤ kind → kind < n + 2 → (kind ≡ n) ⊎ (kind ≡ n + 1)
 either n kind l m = ⊎-elim (λ (e : n ≡ kind). inl (omega arith)) (λ (q : n < kind). inr (omega arith)) (eq-or-lt-of-le l)
 
+-- a kind is none of two
+pub neither : {m n kind : ℕ} → ((kind ≡ m) ⊎ (kind ≡ n) → ⊥) → ¬ (kind ≡ m) × ¬ (kind ≡ n)
+neither h = (λ e. h (inl e), λ e. h (inr e))
+
 -- kind, a and b are record k's bytes
 pub record Bytes (t : List ℕ) (k kind a b : ℕ) : Type 0 where
   pub kind-is : kind ≡ kindAt t k
@@ -34,8 +38,10 @@ module _ {t : List ℕ} {k kind a b : ℕ} (read : Bytes t k kind a b) (said : S
       rw (← e, ← read .kind-is, ← read .a-is, ← read .b-is)
       (⊎-elim (λ (z : kind ≡ 0). rw z) (λ (z : kind ≡ 1). rw z) (either 0 kind (omega arith) l))
 
-  range : {x : Bool} → kind ≡ 2 → ltb b a ≡ x → orElse x (refuses 4 k) said ≡ ownFaultOr t k said
-  range z e = rw (← e, ← read .kind-is, ← read .a-is, ← read .b-is, z)
+  bounds : {x : Bool} → (kind ≡ 2) ⊎ (kind ≡ 6) → ltb b a ≡ x → orElse x (refuses 4 k) said ≡ ownFaultOr t k said
+  bounds l e =
+      rw (← e, ← read .kind-is, ← read .a-is, ← read .b-is)
+      (⊎-elim (λ (z : kind ≡ 2). rw z) (λ (z : kind ≡ 6). rw z) l)
 
   two : {x : Bool} → 2 < kind → kind < 5 → (not (ltb a k) || not (ltb b k)) ≡ x → orElse x (refuses 5 k) said ≡ ownFaultOr t k said
   two l m e =
@@ -46,8 +52,8 @@ module _ {t : List ℕ} {k kind a b : ℕ} (read : Bytes t k kind a b) (said : S
       → orElse x (refuses 3 k) (orElse y (refuses 5 k) said) ≡ ownFaultOr t k said
   star z e f = rw (← e, ← f, ← read .kind-is, ← read .a-is, ← read .b-is, z, or-false)
 
-  pub own-kind : 5 < kind → refuses 2 k ≡ ownFaultOr t k said
-  own-kind l = rw (← read .kind-is, lt-ltb 5 kind l)
+  pub own-kind : 7 ≤ kind → refuses 2 k ≡ ownFaultOr t k said
+  own-kind l = rw (← read .kind-is, le-leb 7 kind l)
 
   pub plain-a : kind < 2 → (a ≡ 0 → ⊥) → refuses 3 k ≡ ownFaultOr t k said
   plain-a l n = plain l (or-true-left (not (eqb a 0)) _ (ap not (ne-eqb a 0 n)))
@@ -58,11 +64,11 @@ module _ {t : List ℕ} {k kind a b : ℕ} (read : Bytes t k kind a b) (said : S
   pub plain-free : kind < 2 → a ≡ 0 → b ≡ 0 → said ≡ ownFaultOr t k said
   plain-free l e f = plain l (or-both (not (eqb a 0)) _ (ap not (eq-eqb a 0 e)) (ap not (eq-eqb b 0 f)))
 
-  pub range-bad : kind ≡ 2 → b < a → refuses 4 k ≡ ownFaultOr t k said
-  range-bad e l = range e (lt-ltb b a l)
+  pub bounds-bad : (kind ≡ 2) ⊎ (kind ≡ 6) → b < a → refuses 4 k ≡ ownFaultOr t k said
+  bounds-bad e l = bounds e (lt-ltb b a l)
 
-  pub range-free : kind ≡ 2 → a ≤ b → said ≡ ownFaultOr t k said
-  range-free e l = range e (le-ltb b a l)
+  pub bounds-free : (kind ≡ 2) ⊎ (kind ≡ 6) → a ≤ b → said ≡ ownFaultOr t k said
+  bounds-free e l = bounds e (le-ltb b a l)
 
   pub two-a : 2 < kind → kind < 5 → k ≤ a → refuses 5 k ≡ ownFaultOr t k said
   two-a l m q = two l m (or-true-left (not (ltb a k)) _ (ap not (le-ltb a k q)))

@@ -1,16 +1,16 @@
--- What a table that passes gives: its size, its kinds, its unused fields, its ranges and its children.
+-- What a table that passes gives: its size, its kinds, its unused fields, its letters' bounds and its children.
 -- Assumes nothing.
 use Prim.Native.Nat.{ℕ, zero, suc, _*_, _/_, _%_, _≤_, _<_}
 use native.Mathlib.Omega.{arith}
 use native.Mathlib.Nat.{eq-or-lt-of-le}
 use mathlib.Core.Path.{_≡_, refl, sym, _∙_}
-use mathlib.Core.Logic.{_⊎_, inl, inr, ⊎-elim}
+use mathlib.Core.Logic.{_⊎_, inl, inr, ⊎-elim, ⊎-map}
 use mathlib.Core.Bool.{Bool, true, false, not, _&&_, _||_, true≢false}
 use mathlib.Core.List.{List}
 use lib.Dec.{ltb, eqb}
 use lib.ListN.{length}
-use borrow.Author.Tests.{ltb-true, ltb-false, eqb-true, eqb-false, not-false}
-use Rattle.table.specs.Records.{count, kindAt, aAt, bAt}
+use borrow.Author.Tests.{leb-false, ltb-true, ltb-false, eqb-true, eqb-false, not-false}
+use Rattle.table.specs.Records.{count, kindAt, aAt, bAt, isRange, isOther, isLetter}
 use Rattle.table.specs.Faults.{namesA, namesB, unusedA, unusedB, names, namedBelow, badNamed, Passes}
 
 -- a test of two parts is false, or true, by its parts
@@ -52,8 +52,14 @@ both-free-a x y z w e f = rw f at (or-false-left (x && y) _ e)
 both-free-b : (x y z w : Bool) → ((x && y) || (z && w)) ≡ false → z ≡ true → w ≡ false
 both-free-b x y z w e f = rw f at (or-false-right (x && y) _ e)
 
--- the fields that are children's numbers, by kind
+-- the kinds of a letter, and the fields that are children's numbers, by kind
 module _ (t : List ℕ) (k : ℕ) where
+  pub letter-kinds : isLetter t k ≡ true → (kindAt t k ≡ 2) ⊎ (kindAt t k ≡ 6)
+  letter-kinds e = ⊎-map (eqb-true (kindAt t k) 2) (eqb-true (kindAt t k) 6) (or-true (isRange t k) (isOther t k) e)
+
+  pub letter-at : {kind : ℕ} → kind ≡ kindAt t k → (kind ≡ 2) ⊎ (kind ≡ 6) → isLetter t k ≡ true
+  letter-at {kind} e = ⊎-elim (λ (z : kind ≡ 2). rw (sym e ∙ z)) (λ (z : kind ≡ 6). rw (sym e ∙ z))
+
   pub two-names : (kindAt t k ≡ 3) ⊎ (kindAt t k ≡ 4) → (namesA t k ≡ true) × (namesB t k ≡ true)
   two-names = ⊎-elim (λ (e : kindAt t k ≡ 3). rw e (refl, refl)) (λ (e : kindAt t k ≡ 4). rw e (refl, refl))
 
@@ -90,9 +96,24 @@ named-later t j (suc k) c l e =
     (λ (q : suc j < suc k). or-true-right (names t k c) _ (named-later t j k c (omega arith) e))
     (eq-or-lt-of-le l)
 
+no-other : (n : ℕ) → n < 7 → ¬ (n ≡ 1) → ¬ ((n ≡ 2) ⊎ (n ≡ 6)) → ¬ (n ≡ 3) → ¬ (n ≡ 4) → ¬ (n ≡ 5) → n ≡ 0
+no-other zero l n1 n2 n3 n4 n5 = refl
+no-other (suc zero) l n1 n2 n3 n4 n5 = absurd (n1 refl)
+no-other (suc (suc zero)) l n1 n2 n3 n4 n5 = absurd (n2 (inl refl))
+no-other (suc (suc (suc zero))) l n1 n2 n3 n4 n5 = absurd (n3 refl)
+no-other (suc (suc (suc (suc zero)))) l n1 n2 n3 n4 n5 = absurd (n4 refl)
+no-other (suc (suc (suc (suc (suc zero))))) l n1 n2 n3 n4 n5 = absurd (n5 refl)
+no-other (suc (suc (suc (suc (suc (suc zero)))))) l n1 n2 n3 n4 n5 = absurd (n2 (inr refl))
+no-other (suc (suc (suc (suc (suc (suc (suc n))))))) l n1 n2 n3 n4 n5 = absurd (omega arith)
+
 module _ (t : List ℕ) (p : Passes t) (k : ℕ) (l : k < count t) where
-  pub kind-small : kindAt t k ≤ 5
-  kind-small = ltb-false 5 (kindAt t k) (p .free-2 k l)
+  pub kind-small : kindAt t k < 7
+  kind-small = leb-false 7 (kindAt t k) (p .free-2 k l)
+
+  -- a record of none of the other kinds is a Nothing
+  pub kind-nothing : {kind : ℕ} → kind ≡ kindAt t k → ¬ (kind ≡ 1) → ¬ ((kind ≡ 2) ⊎ (kind ≡ 6)) → ¬ (kind ≡ 3) → ¬ (kind ≡ 4)
+      → ¬ (kind ≡ 5) → kindAt t k ≡ 0
+  kind-nothing {kind} e n1 n2 n3 n4 n5 = sym e ∙ no-other kind (omega (arith, kind-small)) n1 n2 n3 n4 n5
 
   -- the fields that the kind does not use
   pub unused-a-zero : unusedA t k ≡ true → aAt t k ≡ 0
@@ -101,8 +122,8 @@ module _ (t : List ℕ) (p : Passes t) (k : ℕ) (l : k < count t) where
   pub unused-b-zero : unusedB t k ≡ true → bAt t k ≡ 0
   unused-b-zero e = eqb-true _ _ (not-false _ (both-free-b (unusedA t k) _ (unusedB t k) _ (p .free-3 k l) e))
 
-  pub range-ordered : kindAt t k ≡ 2 → aAt t k ≤ bAt t k
-  range-ordered e = ltb-false (bAt t k) (aAt t k) (rw e at (p .free-4 k l))
+  pub bounds-ordered : isLetter t k ≡ true → aAt t k ≤ bAt t k
+  bounds-ordered e = ltb-false (bAt t k) (aAt t k) (rw e at (p .free-4 k l))
 
   -- children stand below their parent
   child-a-below : namesA t k ≡ true → aAt t k < k

@@ -6,7 +6,7 @@ use mathlib.Core.Path.{_≡_}
 use mathlib.Core.Bool.{Bool, true, false}
 use mathlib.Core.List.{List}
 use Rattle.table.specs.Records.{count}
-use Rattle.table.specs.Faults.{badSize, badKind, badUnused, badRange, badChild, badNamed, fault}
+use Rattle.table.specs.Faults.{badSize, badKind, badUnused, badBounds, badChild, badNamed, fault}
 use Rattle.table.specs.Answers.{Said, gives, refuses}
 
 -- the first answer where the test is true, otherwise the second
@@ -19,7 +19,7 @@ abbrev pub faultOr : List ℕ → ℕ → Said → Said
 faultOr t k said =
     orElse (badKind t k) (refuses 2 k)
     (orElse (badUnused t k) (refuses 3 k)
-    (orElse (badRange t k) (refuses 4 k)
+    (orElse (badBounds t k) (refuses 4 k)
     (orElse (badChild t k) (refuses 5 k)
     (orElse (badNamed t k) (refuses 6 k) said))))
 

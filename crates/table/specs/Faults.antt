@@ -1,13 +1,13 @@
--- What is wrong with a table (document 01, "Who is refused, and by which number", refusals 1 to 6), each refusal by itself; and a table that
--- passes, which is free of all six. Nothing here speaks of an order of testing.
+-- What is wrong with a table (document 01, "Who is refused, and by which number", refusals 1 to 6, with 2 and 4 as document 02, request 1, has
+-- them), each refusal by itself; and a table that passes, which is free of all six. Nothing here speaks of an order of testing.
 -- Assumes nothing.
 use Prim.Native.Nat.{ℕ, zero, suc, _<_, _%_}
 use mathlib.Core.Path.{_≡_}
 use mathlib.Core.Bool.{Bool, false, not, _&&_, _||_}
 use mathlib.Core.List.{List}
-use lib.Dec.{ltb, eqb}
+use lib.Dec.{leb, ltb, eqb}
 use lib.ListN.{length}
-use Rattle.table.specs.Records.{count, kindAt, aAt, bAt, isNothing, isEmpty, isRange, isOr, isSeq, isStar}
+use Rattle.table.specs.Records.{count, kindAt, aAt, bAt, isNothing, isEmpty, isOr, isSeq, isStar, isLetter}
 
 -- 1: "table of 0 bytes, over 1,020, or not a multiple of 4"
 abbrev pub badSize : List ℕ → Bool
@@ -30,17 +30,17 @@ unusedA t k = isNothing t k || isEmpty t k
 abbrev pub unusedB : List ℕ → ℕ → Bool
 unusedB t k = isNothing t k || isEmpty t k || isStar t k
 
--- 2: "kind above 5"
+-- 2 "now begins at kind 7"
 abbrev pub badKind : List ℕ → ℕ → Bool
-badKind t k = ltb 5 (kindAt t k)
+badKind t k = leb 7 (kindAt t k)
 
 -- 3: "an a or b that the table above gives as 0 is not 0"
 abbrev pub badUnused : List ℕ → ℕ → Bool
 badUnused t k = (unusedA t k && not (eqb (aAt t k) 0)) || (unusedB t k && not (eqb (bAt t k) 0))
 
--- 4: "Range with a > b"
-abbrev pub badRange : List ℕ → ℕ → Bool
-badRange t k = isRange t k && ltb (bAt t k) (aAt t k)
+-- 4: "Range with a > b", and it covers Other "as it covers Range"
+abbrev pub badBounds : List ℕ → ℕ → Bool
+badBounds t k = isLetter t k && ltb (bAt t k) (aAt t k)
 
 -- 5: "child number not below its parent's"
 abbrev pub badChild : List ℕ → ℕ → Bool
@@ -65,7 +65,7 @@ pub record Passes (t : List ℕ) : Type 0 where
   pub free-1 : badSize t ≡ false
   pub free-2 : (k : ℕ) → k < count t → badKind t k ≡ false
   pub free-3 : (k : ℕ) → k < count t → badUnused t k ≡ false
-  pub free-4 : (k : ℕ) → k < count t → badRange t k ≡ false
+  pub free-4 : (k : ℕ) → k < count t → badBounds t k ≡ false
   pub free-5 : (k : ℕ) → k < count t → badChild t k ≡ false
   pub free-6 : (k : ℕ) → k < count t → badNamed t k ≡ false
 
@@ -75,7 +75,7 @@ fault zero t k = false
 fault (suc zero) t k = false
 fault (suc (suc zero)) t k = badKind t k
 fault (suc (suc (suc zero))) t k = badUnused t k
-fault (suc (suc (suc (suc zero)))) t k = badRange t k
+fault (suc (suc (suc (suc zero)))) t k = badBounds t k
 fault (suc (suc (suc (suc (suc zero))))) t k = badChild t k
 fault (suc (suc (suc (suc (suc (suc zero)))))) t k = badNamed t k
 fault (suc (suc (suc (suc (suc (suc (suc n))))))) t k = false

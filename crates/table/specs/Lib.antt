@@ -6,4 +6,5 @@ pub mod Answers
 pub mod Checked
 pub mod Expression
 -- What only the functions inside are given and leave.
+pub mod Letters
 pub mod Steps

@@ -1,7 +1,8 @@
--- The rule table of document 01: records of 4 bytes, kind, a, b, tag, numbered from 0. A table is the list t of its bytes.
+-- The rule table of document 01, with the kind of document 02, request 1: records of 4 bytes, kind, a, b, tag, numbered from 0. A table is the
+-- list t of its bytes.
 -- Assumes nothing.
 use Prim.Native.Nat.{ℕ, _+_, _*_, _/_}
-use mathlib.Core.Bool.{Bool}
+use mathlib.Core.Bool.{Bool, _||_}
 use mathlib.Core.List.{List}
 use lib.Dec.{eqb}
 use lib.ListN.{length, getD, take}
@@ -30,7 +31,7 @@ bAt t k = getD t (4 * k + 2) 0
 abbrev pub tagAt : List ℕ → ℕ → ℕ
 tagAt t k = getD t (4 * k + 3) 0
 
--- the kinds of document 01's table, by their numbers: record k is a Nothing, an Empty, ..
+-- the kinds by their numbers: record k is a Nothing, an Empty, ..
 abbrev pub isNothing : List ℕ → ℕ → Bool
 isNothing t k = eqb (kindAt t k) 0
 
@@ -48,3 +49,10 @@ isSeq t k = eqb (kindAt t k) 4
 
 abbrev pub isStar : List ℕ → ℕ → Bool
 isStar t k = eqb (kindAt t k) 5
+
+abbrev pub isOther : List ℕ → ℕ → Bool
+isOther t k = eqb (kindAt t k) 6
+
+-- record k is a letter, whose a and b are bounds: a Range or an Other
+abbrev pub isLetter : List ℕ → ℕ → Bool
+isLetter t k = isRange t k || isOther t k

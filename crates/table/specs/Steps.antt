@@ -8,7 +8,7 @@ use lib.Dec.{eqb}
 use lib.ListN.{length, getD}
 use Rattle.table.specs.declared.Answer.{Answer}
 use Rattle.table.specs.declared.Answer.the-variants.{Done, Refused}
-use Rattle.table.specs.Faults.{badKind, badUnused, badRange, badChild, namedBelow}
+use Rattle.table.specs.Faults.{badKind, badUnused, badBounds, badChild, namedBelow}
 use Rattle.table.specs.Answers.{Said, refuses, refusal}
 use Rattle.table.specs.Checked.{orElse}
 
@@ -21,7 +21,7 @@ orSaid (Refused r) said = refusal r
 abbrev pub ownFaultOr : List ℕ → ℕ → Said → Said
 ownFaultOr t k said =
     orElse (badKind t k) (refuses 2 k)
-    (orElse (badUnused t k) (refuses 3 k) (orElse (badRange t k) (refuses 4 k) (orElse (badChild t k) (refuses 5 k) said)))
+    (orElse (badUnused t k) (refuses 3 k) (orElse (badBounds t k) (refuses 4 k) (orElse (badChild t k) (refuses 5 k) said)))
 
 -- a mark is set where its byte is not 0
 abbrev pub isSet : List ℕ → ℕ → Bool

@@ -3,10 +3,12 @@
 ghost use Prim.Native.Nat.{_+_, _*_, _<_, suc};
 ghost use mathlib.Core.Path.{_≡_};
 ghost use lib.ListN.{length, set};
+ghost use Rattle.regex.specs.Expressions.{holds};
 ghost use Rattle.table.specs.Records.{kindAt, aAt, bAt, tagAt};
 ghost use Rattle.table.specs.Faults.{badNamed};
 ghost use Rattle.table.specs.Answers.{Said, refuses, refusal, says};
 ghost use Rattle.table.specs.Checked.{checked};
+ghost use Rattle.table.specs.Letters.{byteSet};
 ghost use Rattle.table.specs.Steps.{orSaid, ownFaultOr, isSet, Marks};
 
 // Why a call is refused: one case for each of the paper's numbers 1 to 14, in their order. A case holds the refusal's detail where it
@@ -136,6 +138,16 @@ pub fn tag_at(table: &[u8], k: usize) -> u8
     table[4 * k + 3]
 }
 
+// Whether a letter of a kind, a Range or an Other, with the bounds a and b holds byte c.
+pub fn letter_holds(kind: u8, a: u8, b: u8, c: u8) -> bool
+    ensures { λ r. ⌜ r ≡ holds (byteSet kind a b) c ⌝ }
+{
+    if kind == 6 {
+        return c < a || b < c;
+    }
+    a <= c && c <= b
+}
+
 // Record k's first fault of refusals 2 to 5, or k.
 fn own_fault(table: &[u8], k: usize) -> Answer
     requires { ⌜ 4 * k + 3 < length (now table) ⌝ }
@@ -150,7 +162,7 @@ fn own_fault(table: &[u8], k: usize) -> Answer
                 return Answer::Refused(Refusal::Unused(k));
             }
         }
-        2 => {
+        2 | 6 => {
             if b < a {
                 return Answer::Refused(Refusal::Bounds(k));
             }

@@ -53,6 +53,8 @@ fn kinds() {
     show(b"\x01\x00\x00\x00\x05\x00\x00\x00");
     // kind 6
     show(b"\x06\x00\x00\x00");
+    // kind 7
+    show(b"\x07\x00\x00\x00");
     // kind 255, at record 1
     show(b"\x01\x00\x00\x00\xff\x00\x00\x00");
     // tags
@@ -73,14 +75,22 @@ fn unused() {
     show(b"\x01\x00\x00\x00\x05\x00\x01\x00");
 }
 
-// Refusal 4.
-fn ranges() {
+// Refusal 4, at Range and at Other.
+fn bounds() {
     // a = b
     show(b"\x02\x07\x07\x00");
+    show(b"\x06\x07\x07\x00");
     // a = b + 1
     show(b"\x02\x08\x07\x00");
-    // every byte
+    show(b"\x06\x08\x07\x00");
+    // a = 0, b = 255: every byte, and none
     show(b"\x02\x00\xff\x00");
+    show(b"\x06\x00\xff\x00");
+    // a = 255, b = 0
+    show(b"\x02\xff\x00\x00");
+    show(b"\x06\xff\x00\x00");
+    // at record 1
+    show(b"\x06\x07\x07\x00\x06\x08\x07\x00");
 }
 
 // Refusal 5: child k - 1 and child k.
@@ -130,7 +140,11 @@ fn named() {
 // A record with several faults gives the lowest number, and the lowest record comes first.
 fn order() {
     // 2 before 3
-    show(b"\x06\x01\x01\x00");
+    show(b"\x07\x01\x01\x00");
+    // 2 before 4
+    show(b"\x07\x02\x01\x00");
+    // 4 at record 0, 2 at record 1
+    show(b"\x06\x02\x01\x00\x07\x00\x00\x00");
     // 3 before 5
     show(b"\x01\x00\x00\x00\x05\x01\x01\x00");
     // 3 before 6
@@ -140,9 +154,9 @@ fn order() {
     // 5 before 6, in another field
     show(b"\x01\x00\x00\x00\x05\x00\x00\x00\x03\x00\x02\x00");
     // 6 at record 2, 2 at record 3
-    show(b"\x01\x00\x00\x00\x05\x00\x00\x00\x05\x00\x00\x00\x06\x00\x00\x00");
+    show(b"\x01\x00\x00\x00\x05\x00\x00\x00\x05\x00\x00\x00\x07\x00\x00\x00");
     // 5 at record 0, 2 at record 1
-    show(b"\x05\x00\x00\x00\x06\x00\x00\x00");
+    show(b"\x05\x00\x00\x00\x07\x00\x00\x00");
 }
 
 fn main() {
@@ -150,7 +164,7 @@ fn main() {
     sizes();
     kinds();
     unused();
-    ranges();
+    bounds();
     children();
     named();
     order();

@@ -14,7 +14,7 @@ use Rattle.table.specs.Faults.{Passes}
 use Rattle.reading.specs.declared.Span.{Span}
 use Rattle.reading.specs.declared.Fit.the-variants.{Found}
 use Rattle.reading.specs.declared.Shape.{Shape}
-use Rattle.reading.specs.declared.Shape.the-variants.{Leaf, Left, Right, Both, Many, Other}
+use Rattle.reading.specs.declared.Shape.the-variants.{Leaf, Left, Right, Both, Many, Wrong}
 use Rattle.reading.specs.Codec.{fits}
 use Rattle.reading.specs.Fitting.{stepped}
 use Rattle.reading.specs.Walks.{leaf, shapeAt, fitAt, isFound}
@@ -143,7 +143,7 @@ Walked t k bs at offset to writing old next (Both c d) =
 Walked t k bs at offset to writing old next (Many c n) =
     (next ≤ length bs) × (c < k) × Parts t c n bs next offset to writing (length old)
     × ((new : List ℕ) (r : Listing) → ListsItems t c n bs next offset to writing old new r → ListsPart t k bs at offset to writing old new r)
-Walked t k bs at offset to writing old next Other = ⊥
+Walked t k bs at offset to writing old next Wrong = ⊥
 
 module _ (t : List ℕ) (k : ℕ) (z : tagAt t k ≡ 0) (bs : List ℕ) (at offset to : ℕ) (writing : Bool) (old : List ℕ)
     (p : Part t k bs at offset to writing (length old))
@@ -324,7 +324,7 @@ module _ (t : List ℕ) (k : ℕ) (z : tagAt t k ≡ 0) (bs : List ℕ) (at offs
         rw (stepped-on bs at (h .known .0))
         (h .known .0, h .known .1, h .known .2, first-child c d (h .known) h, λ new r a. second c d (h .known) h new r a)
     walked-shaped (Many c n) h = rw (stepped-on bs at (h .known .0)) (h .known .0, h .known .1, walked-many c n (h .known) h .0, walked-many c n (h .known) h .1)
-    walked-shaped Other h = fitted-other t k bs at h (p .fitted)
+    walked-shaped Wrong h = fitted-other t k bs at h (p .fitted)
 
 -- the shape that `look` told and the place that `step` moved, at a record whose tag is 0
 pub walked :

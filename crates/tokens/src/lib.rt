@@ -90,7 +90,7 @@ fn list_element(
             }
         }
         Shape::Many(c, n) => list_iterations(table, c, n, reading, next, offset, out, at, writing),
-        Shape::Other => Listing { next, size: 0, at },
+        Shape::Wrong => Listing { next, size: 0, at },
     }
 }
 

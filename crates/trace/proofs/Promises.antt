@@ -1,18 +1,24 @@
--- The page of promises: the three demands over the definitions that the calls' contracts cite, each proved by one citation. The contracts of
--- table::check, matcher::read, reading::spell, tokens::tokens, ranking::compare and ranking::earlier say that the calls answer and leave what
--- these definitions say, for every input: none of them has a `requires`, and each is proved to end. The clause rivals of matcher::read and the
--- clause precedence of ranking::compare say demand 3 of the answer and the buffer themselves, and those of the calls for C of the number.
+-- The page of promises: the three demands, and what document 02's requests add, over the definitions that the calls' contracts cite, each
+-- proved by one citation. The contracts of table::check, matcher::read, reading::spell, tokens::tokens, ranking::compare and ranking::earlier
+-- say that the calls answer and leave what these definitions say, for every input: none of them has a `requires`, and each is proved to end.
+-- The clause rivals of matcher::read and the clause precedence of ranking::compare say demand 3 of the answer and the buffer themselves, and
+-- those of the calls for C of the number.
 -- Assumes nothing.
 use Prim.Native.Nat.{ℕ, _+_, _*_, _≤_, _<_}
 use mathlib.Core.Path.{_≡_}
-use mathlib.Core.List.{List, _++_, map}
-use mathlib.Core.Logic.{_↔_}
+use mathlib.Core.List.{List, [], _∷_, _++_, map}
+use mathlib.Core.Logic.{_⊎_, _↔_}
 use lib.ListN.{length, drop}
+use Rattle.regex.specs.Expressions.{Exp}
 use Rattle.regex.specs.Values.{Val, flat}
-use Rattle.table.specs.Records.{count, upTo}
+use Rattle.regex.specs.Language.{Bytes, L}
+use Rattle.regex.proofs.Bytes.{spelled-bytes}
+use Rattle.table.specs.Records.{count, upTo, kindAt, aAt, bAt}
 use Rattle.table.specs.Faults.{Passes}
 use Rattle.table.specs.Answers.{Said, gives, refuses, number}
 use Rattle.table.specs.Checked.{checked}
+use Rattle.table.specs.Expression.{expOf}
+use Rattle.table.proofs.Laws.{other-spells, other-none}
 use Rattle.table.proofs.Checking.{check-passes, check-gives}
 use Rattle.table.proofs.UpTo.{up-to-passes}
 use Rattle.reading.specs.Fitting.{Fits}
@@ -132,6 +138,20 @@ pub compare-unfit-second :
     (t : List ℕ) (k : ℕ) (bs cs : List ℕ) → Passes t → k < count t
     → (compareSays t k bs cs ≡ refuses 12 1) ↔ (Fits t k bs × ¬ (Fits t k cs))
 compare-unfit-second = misfits-second
+
+-- Document 02, request 1: Other "holds for one byte c with c < a or c > b"
+pub other-right :
+    (t : List ℕ) (k : ℕ) → kindAt t k ≡ 6 → (s : List ℕ)
+    → L (expOf t k) s ↔ ((c : ℕ) × (c < 256) × ((c < aAt t k) ⊎ (bAt t k < c)) × (s ≡ c ∷ []))
+other-right = other-spells
+
+-- Document 02, request 1: "With a = 0 and b = 255 it spells no line"
+pub other-of-none : (t : List ℕ) (k : ℕ) → kindAt t k ≡ 6 → aAt t k ≡ 0 → bAt t k ≡ 255 → (s : List ℕ) → ¬ (L (expOf t k) s)
+other-of-none = other-none
+
+-- Every line that an expression spells, with letters of either kind, is a list of bytes
+pub lines-bytes : (r : Exp) (s : List ℕ) → L r s → Bytes s
+lines-bytes = spelled-bytes
 
 -- Beyond the demands: a table that passes may be lent up to its start record alone. It passes too, with the start record as its last, each call
 -- says and leaves the same by it, and Read needs no more work area

@@ -20,6 +20,20 @@ static uint8_t kind(tab t, size_t k) { return t.t[4 * k]; }
 static size_t fa(tab t, size_t k) { return t.t[4 * k + 1]; }
 static size_t fb(tab t, size_t k) { return t.t[4 * k + 2]; }
 static uint8_t tag(tab t, size_t k) { return t.t[4 * k + 3]; }
+static int letter(tab t, size_t k) { return kind(t, k) == 2 || kind(t, k) == 6; }
+
+static int holds(tab t, size_t k, uint8_t c) {
+    size_t a = fa(t, k), b = fb(t, k);
+    if (kind(t, k) == 2) return a <= c && c <= b;
+    switch (FAULT) {
+    case 22: return c <= a || c >= b;
+    case 23: return c < a;
+    case 24: return c > b;
+    case 25: return a != b && (c < a || c > b);
+    case 26: return (a == 0 && b == 255) || c < a || c > b;
+    default: return c < a || c > b;
+    }
+}
 
 uint64_t trace_check(const uint8_t *table, size_t len) {
     uint8_t named[256] = {0};
@@ -31,10 +45,11 @@ uint64_t trace_check(const uint8_t *table, size_t len) {
     for (size_t k = 0; k < m; k++) {
         uint8_t d = kind(t, k);
         size_t a = fa(t, k), b = fb(t, k);
-        if (d > 5) return refuse(2, k);
+        if (d > (FAULT == 27 ? 5 : FAULT == 28 ? 7 : 6)) return refuse(2, k);
         if ((d < 2 && (a || b)) || (d == 5 && b)) return refuse(3, k);
-        if (d == 2 && a > b) return refuse(4, k);
-        int two = d == 3 || d == 4, any = d >= 3;
+        if (letter(t, k) && a > b && !(FAULT == 29 && d == 6)) return refuse(4, k);
+        if (FAULT == 30 && d == 6 && a == 0 && b == 255) return refuse(4, k);
+        int two = d == 3 || d == 4, any = two || d == 5 || (FAULT == 31 && d == 6);
         if ((any && a >= k) || (two && b >= k)) return refuse(5, k);
         if (two && a == b) return refuse(6, k);
         if ((any && named[a]) || (two && named[b])) return refuse(6, k);
@@ -67,7 +82,7 @@ static void fill(rd *r) {
                 int y = 0;
                 switch (kind(r->t, k)) {
                 case 1: y = d == 0; break;
-                case 2: y = d == 1 && a <= r->s[i] && r->s[i] <= b; break;
+                case 2: case 6: y = d == 1 && holds(r->t, k, r->s[i]); break;
                 case 3: y = *part(r, a, i, j) || *part(r, b, i, j); break;
                 case 4: for (size_t p = i; p <= j && !y; p++) y = *part(r, a, i, p) && *part(r, b, p, j); break;
                 case 5: y = d == 0; for (size_t p = i + 1; p <= j && !y; p++) y = *part(r, a, i, p) && *part(r, k, p, j); break;
@@ -91,7 +106,7 @@ static void put(rd *r, size_t k, size_t i, size_t j) {
     size_t a = fa(r->t, k), b = fb(r->t, k);
     switch (kind(r->t, k)) {
     case 1: put2(r, 0, 0); break;
-    case 2: put2(r, 1, r->s[i]); break;
+    case 2: case 6: put2(r, FAULT == 32 && kind(r->t, k) == 6 ? 6 : 1, r->s[i]); break;
     case 3:
         if (FAULT == 11 ? !*part(r, b, i, j) : *part(r, a, i, j)) { put2(r, 2, 0); put(r, a, i, j); }
         else { put2(r, 3, 0); put(r, b, i, j); }
@@ -147,7 +162,10 @@ static size_t element(tab t, size_t k, const uint8_t *v, size_t len, size_t at, 
     at += 2;
     switch (kind(t, k)) {
     case 1: return d == 0 && x == 0 ? at : SIZE_MAX;
-    case 2: if (d != 1 || x < a || x > b) return SIZE_MAX; ++*n; return at;
+    case 2: case 6:
+        if (d != 1 || (!holds(t, k, x) && !(FAULT == 33 && kind(t, k) == 6))) return SIZE_MAX;
+        ++*n;
+        return at;
     case 3:
         if (x || (d != 2 && d != 3)) return SIZE_MAX;
         return element(t, d == 2 ? a : b, v, len, at, n);
@@ -196,6 +214,7 @@ static size_t tokens(tab t, size_t k, const uint8_t *v, size_t len, size_t at, u
     uint8_t d = v[at], x = v[at + 1];
     at += 2;
     switch (kind(t, k)) {
+    case 6: if (FAULT == 34) break; /* fall through */
     case 2: ++*off; break;
     case 3: return tokens(t, d == 2 ? a : b, v, len, at, off, out, cnt);
     case 4: at = tokens(t, a, v, len, at, off, out, cnt); return tokens(t, b, v, len, at, off, out, cnt);

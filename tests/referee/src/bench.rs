@@ -1,5 +1,5 @@
 //! The lines on the bench of document 01: tables T1 to T4, cases A to J and
-//! the edges.
+//! the edges. And lines for Other, request 1 of document 02.
 
 pub const T1: &[u8] = &[
     2, 0x61, 0x61, 1, 2, 0x61, 0x61, 0, 2, 0x62, 0x62, 0, 4, 1, 2, 2, 2, 0x62, 0x62, 0, 2, 0x63,
@@ -12,12 +12,19 @@ pub const T2: &[u8] = &[
 pub const T3: &[u8] = &[1, 0, 0, 0, 5, 0, 0, 0];
 pub const T4: &[u8] = &[1, 0, 0, 7];
 
+/// A remark, tagged 1, up to the semicolon.
+const REMARK: &[u8] = &[6, 0x3b, 0x3b, 0, 5, 0, 0, 1, 2, 0x3b, 0x3b, 0, 4, 1, 2, 0];
+/// No byte, all but 5, and all but the digits.
+const NO_BYTE: &[u8] = &[6, 0, 255, 0];
+const NOT_5: &[u8] = &[6, 5, 5, 0];
+const NO_DIGIT: &[u8] = &[6, 0x30, 0x39, 0];
+
 /// The refusal of that number with detail 0.
 pub const fn refusal(number: u64) -> u64 {
     number << 32
 }
 
-/// One request and the answer the document states for it.
+/// One request and the answer stated for it.
 pub struct Stated {
     pub name: &'static str,
     pub request: Request,
@@ -72,6 +79,7 @@ pub fn stated() -> Vec<Stated> {
     d.extend(ab);
     let mut b = vec![5, 1];
     b.extend(ab);
+    let remark = [4, 0, 5, 2, 1, 0x61, 1, 0x62, 1, 0x3b];
     // The edge lines are read by a*.
     let many = vec![2, 0x61, 0x61, 0, 5, 0, 0, 0];
     let mut long = vec![5, 255];
@@ -97,6 +105,16 @@ pub fn stated() -> Vec<Stated> {
         number: list.len() as u64 / 3,
         written: list.to_vec(),
     };
+    let spell = |name, table: &[u8], reading: &[u8], line: Option<&[u8]>| Stated {
+        name,
+        request: Request::Spell {
+            table: table.to_vec(),
+            start: table.len() as u64 / 4 - 1,
+            reading: reading.to_vec(),
+        },
+        number: line.map_or(refusal(12), |line| line.len() as u64),
+        written: line.unwrap_or_default().to_vec(),
+    };
     let check = |name, table: Vec<u8>, number| Stated {
         name,
         request: Request::Check { table },
@@ -114,12 +132,7 @@ pub fn stated() -> Vec<Stated> {
         compare("G", &f, &g, 1),
         compare("G turned", &g, &f, 2),
         compare("G same", &g, &g, 0),
-        Stated {
-            name: "H",
-            request: Request::Spell { table: T3.to_vec(), start: 1, reading: vec![5, 1, 0, 0] },
-            number: refusal(12),
-            written: vec![],
-        },
+        spell("H", T3, &[5, 1, 0, 0], None),
         read("I", T3, b"", &[5, 0]),
         read("J", T4, b"", &[0, 0]),
         tokens("J", T4, &[0, 0], &[7, 0, 0]),
@@ -135,6 +148,32 @@ pub fn stated() -> Vec<Stated> {
         edge_read("line of 256", many, vec![0x61; 256], 70_000, refusal(7), vec![]),
         edge_read("work of 100", T1.to_vec(), b"abc".to_vec(), 100, 8, c.to_vec()),
         edge_read("work of 99", T1.to_vec(), b"abc".to_vec(), 99, refusal(10), vec![]),
+        check("remark", REMARK.to_vec(), 4),
+        read("remark", REMARK, b"ab;", &remark),
+        spell("remark", REMARK, &remark, Some(b"ab;")),
+        tokens("remark", REMARK, &remark, &[1, 0, 2]),
+        read("remark, empty", REMARK, b";", &[4, 0, 5, 0, 1, 0x3b]),
+        read("remark, a semicolon inside", REMARK, b"a;b;", &[]),
+        read("remark, no semicolon", REMARK, b"ab", &[]),
+        spell("remark, a semicolon inside", REMARK, &[4, 0, 5, 1, 1, 0x3b, 1, 0x3b], None),
+        check("Other of no byte", NO_BYTE.to_vec(), 1),
+        read("Other of no byte", NO_BYTE, b"a", &[]),
+        read("Other of no byte, empty line", NO_BYTE, b"", &[]),
+        spell("Other of no byte", NO_BYTE, &[1, 0x61], None),
+        read("Other below", NOT_5, &[4], &[1, 4]),
+        read("Other above", NOT_5, &[6], &[1, 6]),
+        read("Other at its bound", NOT_5, &[5], &[]),
+        read("Other, lowest byte", NOT_5, &[0], &[1, 0]),
+        read("Other, highest byte", NOT_5, &[255], &[1, 255]),
+        read("Other, empty line", NOT_5, b"", &[]),
+        read("Other, two bytes", NOT_5, &[4, 6], &[]),
+        spell("Other at its bound", NOT_5, &[1, 5], None),
+        read("Other below its lowest", NO_DIGIT, &[0x2f], &[1, 0x2f]),
+        read("Other at its lowest", NO_DIGIT, &[0x30], &[]),
+        read("Other at its highest", NO_DIGIT, &[0x39], &[]),
+        read("Other above its highest", NO_DIGIT, &[0x3a], &[1, 0x3a]),
+        check("Other with a above b", vec![1, 0, 0, 0, 6, 5, 4, 0], refusal(4) + 1),
+        check("kind 7", vec![1, 0, 0, 0, 7, 0, 0, 0], refusal(2) + 1),
     ]
 }
 
@@ -143,9 +182,11 @@ mod tests {
     use super::*;
     use crate::calls::{trace_check, trace_compare, trace_spell, trace_tokens, Reader};
     use crate::order::rank;
-    use crate::random::{all_lines, all_tables, damaged_reading, rival, table, Grower, Rng, Room};
+    use crate::random::{
+        all_lines, all_tables, changed_line, damaged_reading, rival, table, Grower, Rng, Room,
+    };
     use crate::rivals::rivals;
-    use crate::table::{check, Kind, Table};
+    use crate::table::{check, Kind, Letter, Table};
     use crate::value::{fit, Value};
     use crate::{posix, relation};
     use std::cmp::Ordering;
@@ -215,7 +256,7 @@ mod tests {
         };
         match (t.kind(k), v) {
             (Kind::Empty, Value::Void) => s.is_empty(),
-            (Kind::Range(a, b), Value::Byte(c)) => s == [*c] && a <= *c && *c <= b,
+            (Kind::Letter(letter), Value::Byte(c)) => s == [*c] && letter.holds(*c),
             (Kind::Or(r1, _), Value::Left(v)) => holds(t, r1, s, v),
             (Kind::Or(r1, r2), Value::Right(v)) => holds(t, r2, s, v) && !spells(r1, s),
             (Kind::Seq(r1, r2), Value::Seq(v1, v2)) => (0..=s.len()).any(|cut| {
@@ -328,5 +369,41 @@ mod tests {
             }
         }
         assert!(fitted > 20);
+    }
+
+    /// The table with another kind in place of each Other.
+    fn without_others(t: &Table, kind: Kind) -> Table {
+        let mut t = t.clone();
+        for record in &mut t.records {
+            if matches!(record.kind, Kind::Letter(letter) if letter.outside) {
+                record.kind = kind;
+            }
+        }
+        t
+    }
+
+    /// Of the random readings and lines enough hang on what an Other holds,
+    /// and on what it doesn't hold.
+    #[test]
+    fn others_are_met_and_missed() {
+        let mut rng = Rng::new(4);
+        let (mut met, mut unfit, mut refused) = (0, 0, 0);
+        for _ in 0..4000 {
+            let records = 1 + rng.below(12);
+            let t = table(&mut rng, records);
+            let k = records - 1;
+            let mut room = Room { bytes: 12, eager: false };
+            let Some(v) = Grower::new(&t).value(&mut rng, k, &mut room) else { continue };
+            let none = without_others(&t, Kind::Nothing);
+            let all = without_others(&t, Kind::Letter(Letter::range(0, 255)));
+            met += u32::from(fit(&none, k, &v.reading()).is_none());
+            let damaged = damaged_reading(&mut rng, &v.reading());
+            let fits = |t| fit(t, k, &damaged).is_some();
+            unfit += u32::from(fits(&all) && !fits(&t));
+            let line = changed_line(&mut rng, &v.line());
+            let reads = |t| relation::read(t, k, &line).is_some();
+            refused += u32::from(reads(&all) && !reads(&t));
+        }
+        assert!(met > 1000 && unfit > 20 && refused > 50);
     }
 }

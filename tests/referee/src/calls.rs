@@ -191,7 +191,7 @@ fn walk(table: &Table, k: usize, value: &Value, offset: &mut usize, list: &mut V
         return;
     }
     match (table.kind(k), value) {
-        (Kind::Range(..), Value::Byte(_)) => *offset += 1,
+        (Kind::Letter(_), Value::Byte(_)) => *offset += 1,
         (Kind::Or(r1, _), Value::Left(v)) => walk(table, r1, v, offset, list),
         (Kind::Or(_, r2), Value::Right(v)) => walk(table, r2, v, offset, list),
         (Kind::Seq(r1, r2), Value::Seq(v1, v2)) => {

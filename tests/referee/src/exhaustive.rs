@@ -3,11 +3,11 @@
 use crate::harness::{check, compare, read, spell, tokens, Harness};
 use referee::bench::{refusal, stated, Request, T1};
 use referee::calls::work_need;
-use referee::random::{all_lines, all_tables};
+use referee::random::{all_lines, all_tables, star_nest};
 use referee::rivals::rivals;
-use referee::table::Table;
+use referee::table::{Letter, Table};
 
-/// Cases A to J and the edges, against the answers the document states.
+/// Cases A to J, the edges and Other, against stated answers.
 pub fn bench(h: &mut Harness) {
     for case in stated() {
         h.from(format!("case {}", case.name));
@@ -27,7 +27,7 @@ pub fn bench(h: &mut Harness) {
 pub fn fields(h: &mut Harness) {
     h.from("all small fields");
     let mut records = Vec::new();
-    for kind in 0..=6 {
+    for kind in 0..=7 {
         for a in 0..=3 {
             for b in 0..=3 {
                 records.push([kind, a, b, 0]);
@@ -43,7 +43,7 @@ pub fn fields(h: &mut Harness) {
             table.truncate(4);
             table.extend(two);
             h.put(check(&table), 0);
-            if one[0] == 6 || two[0] == 6 {
+            if one[0] == 7 || two[0] == 7 {
                 continue;
             }
             for three in &records {
@@ -61,7 +61,7 @@ pub fn fields(h: &mut Harness) {
     h.from("every byte as kind, a or b");
     for field in 0..3 {
         for byte in 0..=255 {
-            for kind in 0..=6 {
+            for kind in 0..=7 {
                 let mut table = [1, 0, 0, 0, 1, 0, 0, 0, kind, 0, 1, 0];
                 table[8 + field] = byte;
                 h.put(check(&table), 0);
@@ -144,17 +144,20 @@ fn all_rivals(h: &mut Harness, table: &Table, k: usize, line: &[u8]) {
     }
 }
 
-/// Lines of every length up to 260, by a*, and of some lengths by T1.
+/// Lines of every length up to 260, by a Star over a Range and over an Other,
+/// and of some lengths by T1.
 pub fn lengths(h: &mut Harness) {
-    let many = [2, 0x61, 0x61, 0, 5, 0, 0, 0];
     for n in 0..=260 {
         h.from(format!("a line of {n}"));
         let need = work_need(2, n);
         let line = vec![0x61; n];
-        for out_len in [2 * n + 2, 2 * n + 1] {
-            h.put(read(&many, 1, &line, need), out_len);
+        for letter in [Letter::range(0x61, 0x61), Letter::other(0x62, 0x62)] {
+            let many = star_nest(letter, 2, 0).bytes();
+            for out_len in [2 * n + 2, 2 * n + 1] {
+                h.put(read(&many, 1, &line, need), out_len);
+            }
+            h.put(read(&many, 1, &line, need - 1), 2 * n + 2);
         }
-        h.put(read(&many, 1, &line, need - 1), 2 * n + 2);
         if n % 17 == 0 {
             let line = b"abcab".repeat(n / 5);
             h.put(read(T1, 9, &line, work_need(10, line.len())), 2000);

@@ -5,7 +5,7 @@
 //! 0. Injection looks at the two sides again to know which one was dropped.
 //! Apart from that the equations are the paper's.
 
-use crate::table::{Kind, Table};
+use crate::table::{Kind, Letter, Table};
 use crate::value::Value;
 use std::collections::HashMap;
 use std::rc::Rc;
@@ -16,7 +16,7 @@ type Name = usize;
 enum Expr {
     Zero,
     One,
-    Range(u8, u8),
+    Letter(Letter),
     Or(Name, Name),
     Seq(Name, Name),
     Star(Name),
@@ -49,7 +49,7 @@ impl Lexer {
             return name;
         }
         let nullable = match expr {
-            Expr::Zero | Expr::Range(..) => false,
+            Expr::Zero | Expr::Letter(_) => false,
             Expr::One | Expr::Star(_) => true,
             Expr::Or(a, b) => self.nullable[a] || self.nullable[b],
             Expr::Seq(a, b) => self.nullable[a] && self.nullable[b],
@@ -66,7 +66,7 @@ impl Lexer {
         let expr = match table.kind(k) {
             Kind::Nothing => Expr::Zero,
             Kind::Empty => Expr::One,
-            Kind::Range(a, b) => Expr::Range(a, b),
+            Kind::Letter(letter) => Expr::Letter(letter),
             Kind::Or(a, b) => Expr::Or(self.record(table, a), self.record(table, b)),
             Kind::Seq(a, b) => Expr::Seq(self.record(table, a), self.record(table, b)),
             Kind::Star(a) => Expr::Star(self.record(table, a)),
@@ -106,8 +106,8 @@ impl Lexer {
         }
         let d = match self.exprs[r] {
             Expr::Zero | Expr::One => self.name(Expr::Zero),
-            Expr::Range(a, b) if a <= c && c <= b => self.name(Expr::One),
-            Expr::Range(..) => self.name(Expr::Zero),
+            Expr::Letter(letter) if letter.holds(c) => self.name(Expr::One),
+            Expr::Letter(_) => self.name(Expr::Zero),
             Expr::Or(a, b) => {
                 let (da, db) = (self.derive(a, c)?, self.derive(b, c)?);
                 self.or(da, db)
@@ -139,7 +139,7 @@ impl Lexer {
             Expr::Or(_, b) => Value::Right(self.mkeps(b)),
             Expr::Seq(a, b) => Value::Seq(self.mkeps(a), self.mkeps(b)),
             Expr::Star(_) => Value::Stars(vec![]),
-            Expr::Zero | Expr::Range(..) => unreachable!("not nullable"),
+            Expr::Zero | Expr::Letter(_) => unreachable!("not nullable"),
         })
     }
 
@@ -161,7 +161,7 @@ impl Lexer {
     /// inj r c v: from a value of r \ c to a value of r.
     fn inject(&mut self, r: Name, c: u8, v: &Rc<Value>) -> Rc<Value> {
         Rc::new(match self.exprs[r] {
-            Expr::Range(..) => Value::Byte(c),
+            Expr::Letter(_) => Value::Byte(c),
             Expr::Or(a, b) => {
                 let (da, db) = (self.derivative(a, c), self.derivative(b, c));
                 let (left, v) = self.side(da, db, v);

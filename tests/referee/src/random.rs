@@ -1,7 +1,7 @@
 //! Random tables, readings, lines and damages from a fixed seed.
 
 use crate::relation;
-use crate::table::{check, Kind, Record, Table};
+use crate::table::{check, Kind, Letter, Record, Table};
 use crate::value::Value;
 use std::rc::Rc;
 
@@ -43,8 +43,8 @@ impl Rng {
     }
 }
 
-/// A few letters that lie together, often at an end of the byte range.
-fn letters(rng: &mut Rng) -> (u8, u8) {
+/// A few bytes that lie together, often at an end of the byte range.
+fn alphabet(rng: &mut Rng) -> (u8, u8) {
     let count = rng.choose(&[1u8, 2, 2, 2, 3, 4]);
     let low = rng.choose(&[0x61, 0x61, 0x61, 0, 1, 0x7f, 255 - (count - 1)]);
     (low, low + (count - 1))
@@ -54,21 +54,41 @@ fn leaf(rng: &mut Rng, low: u8, high: u8) -> Kind {
     match rng.below(40) {
         0 => Kind::Nothing,
         1..=7 => Kind::Empty,
-        8 => Kind::Range(0, 255),
-        9..=13 => Kind::Range(low, high),
+        _ => Kind::Letter(letter(rng, low, high)),
+    }
+}
+
+/// A Range or an Other, with bounds at both ends of the byte range, or at,
+/// around or inside those of the alphabet.
+fn letter(rng: &mut Rng, low: u8, high: u8) -> Letter {
+    let (a, b) = match rng.below(32) {
+        0 => (0, 255),
+        1..=4 => (low, high),
+        5 | 6 => {
+            let (below, above) = (rng.below(3) as u8, rng.below(3) as u8);
+            (low.saturating_sub(below), high.saturating_add(above))
+        }
         _ => {
             let count = usize::from(high - low) + 1;
             let a = low + rng.below(count) as u8;
-            let b = if rng.once_in(6) { high } else { a };
-            Kind::Range(a, b)
+            (a, if rng.once_in(6) { high } else { a })
         }
-    }
+    };
+    Letter { a, b, outside: rng.once_in(3) }
+}
+
+/// A byte that the letter holds, most often one near its bounds.
+fn byte_of(rng: &mut Rng, letter: Letter) -> u8 {
+    let near = letter.a.saturating_sub(2)..=letter.b.saturating_add(2);
+    let bytes = if rng.once_in(4) { 0..=255 } else { near };
+    let held: Vec<u8> = bytes.filter(|&c| letter.holds(c)).collect();
+    rng.choose(&held)
 }
 
 /// A table that passes Check, of the given number of records. The pool holds
 /// the records that nobody has named yet.
 pub fn table(rng: &mut Rng, records: usize) -> Table {
-    let (low, high) = letters(rng);
+    let (low, high) = alphabet(rng);
     let style = rng.below(6);
     let tag_in = rng.choose(&[1, 2, 4, 8, 30, 1_000_000]);
     let mut pool: Vec<usize> = Vec::new();
@@ -128,7 +148,10 @@ impl<'a> Grower<'a> {
             let (x, y) = match record.kind {
                 Kind::Nothing => (false, false),
                 Kind::Empty => (true, false),
-                Kind::Range(..) => (true, true),
+                Kind::Letter(letter) => {
+                    let held = (0..=255).any(|c| letter.holds(c));
+                    (held, held)
+                }
                 Kind::Or(a, b) => (any[a] || any[b], some[a] || some[b]),
                 Kind::Seq(a, b) => {
                     let both = any[a] && any[b];
@@ -160,10 +183,9 @@ impl<'a> Grower<'a> {
         match self.table.kind(k) {
             Kind::Nothing => unreachable!("Nothing has no value"),
             Kind::Empty => Value::Void,
-            Kind::Range(a, b) => {
+            Kind::Letter(letter) => {
                 room.bytes -= 1;
-                let span = usize::from(b - a) + 1;
-                Value::Byte(a + rng.below(span) as u8)
+                Value::Byte(byte_of(rng, letter))
             }
             Kind::Or(r1, r2) => {
                 let left = self.can(r1, full) && (!self.can(r2, full) || rng.once_in(2));
@@ -213,12 +235,13 @@ pub fn rival(rng: &mut Rng, table: &Table, k: usize, line: &[u8]) -> Option<Valu
 pub fn changed_line(rng: &mut Rng, line: &[u8]) -> Vec<u8> {
     let mut line = line.to_vec();
     let place = rng.below(line.len() + 1);
-    match rng.below(4) {
+    match rng.below(5) {
         0 if place < line.len() => line[place] = line[place].wrapping_add(rng.choose(&[1, 255, 2])),
-        1 if place < line.len() => {
+        1 if place < line.len() => line[place] = rng.byte(),
+        2 if place < line.len() => {
             line.remove(place);
         }
-        2 => line.truncate(place),
+        3 => line.truncate(place),
         _ => {
             let c = if line.is_empty() { 0x61 } else { line[rng.below(line.len())] };
             line.insert(place, c);
@@ -251,7 +274,7 @@ pub fn damaged_table(rng: &mut Rng, table: &Table, number: u32) -> Vec<u8> {
                 _ => bytes.extend([1, 0, 0, 0].repeat(256 - m)),
             }
         }
-        2 => bytes[at] = rng.choose(&[6, 7, 128, 255]),
+        2 => bytes[at] = rng.choose(&[7, 8, 128, 255]),
         3 => {
             bytes[at] = rng.choose(&[0, 1, 5]);
             let field = if bytes[at] == 5 { 2 } else { 1 + rng.below(2) };
@@ -261,7 +284,7 @@ pub fn damaged_table(rng: &mut Rng, table: &Table, number: u32) -> Vec<u8> {
         4 => {
             let a = 1 + rng.below(255) as u8;
             let b = rng.below(usize::from(a)) as u8;
-            bytes[at..at + 3].copy_from_slice(&[2, a, b]);
+            bytes[at..at + 3].copy_from_slice(&[rng.choose(&[2, 6]), a, b]);
         }
         5 => {
             let child = rng.choose(&[k, k + 1, 255]).min(255) as u8;
@@ -289,11 +312,12 @@ pub fn damaged_table(rng: &mut Rng, table: &Table, number: u32) -> Vec<u8> {
     bytes
 }
 
-/// A reading with one byte changed, cut short, extended, or a count off by one.
+/// A reading with one byte changed, cut short, extended, or a count or a byte
+/// of the line off by one.
 pub fn damaged_reading(rng: &mut Rng, reading: &[u8]) -> Vec<u8> {
     let mut bytes = reading.to_vec();
     let len = bytes.len();
-    match rng.below(10) {
+    match rng.below(12) {
         0 | 1 if len > 0 => {
             let place = rng.below(len);
             bytes[place] ^= 1 << rng.below(8);
@@ -311,11 +335,12 @@ pub fn damaged_reading(rng: &mut Rng, reading: &[u8]) -> Vec<u8> {
         }
         7 if len > 1 => bytes.extend_from_within(len - 2..),
         _ => {
-            let stars: Vec<usize> = (0..len / 2).filter(|i| bytes[2 * i] == 5).collect();
-            if stars.is_empty() {
+            let kind = rng.choose(&[1, 5]);
+            let places: Vec<usize> = (0..len / 2).filter(|i| bytes[2 * i] == kind).collect();
+            if places.is_empty() {
                 bytes.extend([0, 0]);
             } else {
-                let at = 2 * rng.choose(&stars) + 1;
+                let at = 2 * rng.choose(&places) + 1;
                 bytes[at] = bytes[at].wrapping_add(rng.choose(&[1, 255]));
             }
         }
@@ -323,15 +348,22 @@ pub fn damaged_reading(rng: &mut Rng, reading: &[u8]) -> Vec<u8> {
     bytes
 }
 
-/// Every leaf that a small table over the letters a and b can hold.
-pub fn small_leaves() -> Vec<Kind> {
-    vec![
-        Kind::Nothing,
-        Kind::Empty,
-        Kind::Range(0x61, 0x61),
-        Kind::Range(0x62, 0x62),
-        Kind::Range(0x61, 0x62),
-    ]
+/// The leaves that record k of a small table over the letters a and b can be:
+/// Empty, and one for each set of the two. The set is held by a Range, or
+/// Nothing, in even records and by an Other in odd ones; tables of one or two
+/// records have both.
+fn small_leaves(records: usize, k: usize) -> Vec<Kind> {
+    let mut leaves = vec![Kind::Empty];
+    if records < 3 || k % 2 == 0 {
+        let ranges = [(0x61, 0x61), (0x62, 0x62), (0x61, 0x62)];
+        leaves.push(Kind::Nothing);
+        leaves.extend(ranges.map(|(a, b)| Kind::Letter(Letter::range(a, b))));
+    }
+    if records < 3 || k % 2 == 1 {
+        let others = [(0, 255), (0x62, 0x62), (0x61, 0x61), (0x63, 255)];
+        leaves.extend(others.map(|(a, b)| Kind::Letter(Letter::other(a, b))));
+    }
+    leaves
 }
 
 /// Visits all tables of exactly so many records over the letters a and b.
@@ -340,7 +372,8 @@ pub fn all_tables(records: usize, visit: &mut dyn FnMut(&Table)) {
         if left == 0 {
             return visit(table);
         }
-        let mut kinds = small_leaves();
+        let k = table.records.len();
+        let mut kinds = small_leaves(k + left, k);
         for &a in pool {
             kinds.push(Kind::Star(a));
             for &b in pool.iter().filter(|&&b| b != a) {
@@ -351,7 +384,7 @@ pub fn all_tables(records: usize, visit: &mut dyn FnMut(&Table)) {
             let children = kind.children();
             let mut rest: Vec<usize> =
                 pool.iter().copied().filter(|k| !children.contains(k)).collect();
-            rest.push(table.records.len());
+            rest.push(k);
             table.records.push(Record { kind, tag: 0 });
             extend(table, &rest, left - 1, visit);
             table.records.pop();
@@ -378,9 +411,9 @@ pub fn all_lines(longest: usize) -> Vec<Vec<u8>> {
     lines
 }
 
-/// A nest of Stars over one Range of the letter a with the given tag.
-pub fn star_nest(records: usize, tag: u8) -> Table {
-    let mut list = vec![Record { kind: Kind::Range(0x61, 0x61), tag }];
+/// A nest of Stars over one letter with the given tag.
+pub fn star_nest(letter: Letter, records: usize, tag: u8) -> Table {
+    let mut list = vec![Record { kind: Kind::Letter(letter), tag }];
     list.extend((1..records).map(|k| Record { kind: Kind::Star(k - 1), tag: 0 }));
     Table { records: list }
 }

@@ -2,15 +2,15 @@
 //! of an automaton with two states for each record, run forward from a place
 //! of the line or backward from one.
 
-use crate::table::{Kind, Table};
+use crate::table::{Kind, Letter, Table};
 use crate::value::Value;
 use std::rc::Rc;
 
-/// A move of the automaton: for free, or over one byte of a range.
+/// A move of the automaton: for free, or over one byte that a letter holds.
 #[derive(Clone, Copy)]
 enum Label {
     Free,
-    Over(u8, u8),
+    Over(Letter),
 }
 
 type State = usize;
@@ -49,7 +49,7 @@ impl Automaton {
         match table.kind(k) {
             Kind::Nothing => {}
             Kind::Empty => self.link(entry(k), Free, exit(k)),
-            Kind::Range(a, b) => self.link(entry(k), Over(a, b), exit(k)),
+            Kind::Letter(letter) => self.link(entry(k), Over(letter), exit(k)),
             Kind::Or(a, b) => {
                 for side in [a, b] {
                     self.link(entry(k), Free, entry(side));
@@ -122,7 +122,7 @@ fn run(
         for &state in states.iter().filter(|&&state| state != to) {
             for &(label, after) in &moves[state] {
                 match label {
-                    Label::Over(a, b) if a <= c && c <= b => next.push(after),
+                    Label::Over(letter) if letter.holds(c) => next.push(after),
                     _ => {}
                 }
             }
@@ -158,7 +158,7 @@ impl<'a> Reader<'a> {
         match self.table.kind(k) {
             Kind::Nothing => unreachable!("Nothing has no reading"),
             Kind::Empty => Value::Void,
-            Kind::Range(..) => Value::Byte(part[0]),
+            Kind::Letter(_) => Value::Byte(part[0]),
             Kind::Or(r1, r2) => {
                 let mut sides = Vec::new();
                 if self.automaton.spells(r1, part) {

@@ -10,8 +10,8 @@ pub fn rivals(table: &Table, k: usize, line: &[u8]) -> Vec<Value> {
         Kind::Nothing => vec![],
         Kind::Empty if line.is_empty() => vec![Value::Void],
         Kind::Empty => vec![],
-        Kind::Range(a, b) => match line {
-            &[c] if a <= c && c <= b => vec![Value::Byte(c)],
+        Kind::Letter(letter) => match line {
+            &[c] if letter.holds(c) => vec![Value::Byte(c)],
             _ => vec![],
         },
         Kind::Or(r1, r2) => {

@@ -7,7 +7,7 @@ use referee::random::{
     bad_start, changed_line, damaged_reading, damaged_table, rival, star_nest, table, Grower, Rng,
     Room,
 };
-use referee::table::{Kind, Record, Table};
+use referee::table::{Kind, Letter, Record, Table};
 use referee::value::Value;
 
 #[derive(Clone, Copy, PartialEq, Debug)]
@@ -26,7 +26,10 @@ fn start(rng: &mut Rng, size: Size) -> (Table, usize) {
         Size::Long => 100 + rng.below(155),
     };
     let mut table = match rng.below(20) {
-        0 => star_nest(records, rng.below(2) as u8),
+        0 => {
+            let letter = rng.choose(&[Letter::range(0x61, 0x61), Letter::other(0x61, 0x61)]);
+            star_nest(letter, records, rng.below(2) as u8)
+        }
         1 => comb(rng, records),
         _ => table(rng, records),
     };
@@ -45,8 +48,9 @@ fn comb(rng: &mut Rng, records: usize) -> Table {
     let (seq, left) = (rng.once_in(2), rng.once_in(2));
     let leaf = |rng: &mut Rng| {
         let kind = rng.choose(&[
-            Kind::Range(0x61, 0x61),
-            Kind::Range(0x61, 0x62),
+            Kind::Letter(Letter::range(0x61, 0x61)),
+            Kind::Letter(Letter::range(0x61, 0x62)),
+            Kind::Letter(Letter::other(0x61, 0x61)),
             Kind::Empty,
             Kind::Empty,
         ]);
@@ -103,13 +107,14 @@ pub fn round(h: &mut Harness, rng: &mut Rng, size: Size) {
     let value = if rng.once_in(long) { eager(rng, &table, k) } else { grown(rng, &table, k, size) };
     let mut line = value.as_ref().map_or_else(|| b"ab".to_vec(), |v| v.line());
     match rng.below(8) {
-        0 => line = changed_line(rng, &line),
-        1 if line.len() > 255 => line.truncate(256),
-        2 | 3 => line.truncate(255),
+        0 | 1 => line = changed_line(rng, &line),
+        2 if line.len() > 255 => line.truncate(256),
+        3 | 4 => line.truncate(255),
         _ => {}
     }
     if rng.once_in(40) {
-        line = (0..rng.below(300)).map(|_| rng.choose(&[0x61, 0x61, 0x62])).collect();
+        let bytes = rng.choose(&[&b"aab"[..], b"aab;"]);
+        line = (0..rng.below(300)).map(|_| rng.choose(bytes)).collect();
     }
     // A wide table and a long line are dear for Read: one of them gives way.
     if size == Size::Medium && line.len() > 100 && rng.below(4) != 0 && line.len() < 256 {

@@ -6,7 +6,7 @@ use referee::bench::Request;
 use referee::calls::work_need;
 use referee::random::{all_lines, all_tables};
 use referee::rivals::rivals;
-use referee::table::{check, Kind, Record, Table};
+use referee::table::{check, Kind, Letter, Record, Table};
 use referee::value::{fit, Value};
 use std::rc::Rc;
 use std::time::{Duration, Instant};
@@ -199,10 +199,12 @@ fn smaller_tables(table: &Table, start: u64) -> Vec<(Vec<u8>, u64)> {
         let mut other = table.clone();
         other.records[k].tag = 0;
         all.push((other.bytes(), start));
-        if !table.kind(k).children().is_empty() {
-            other.records[k].kind = Kind::Empty;
-            all.push((other.bytes(), start));
-        }
+        other.records[k].kind = match table.kind(k) {
+            Kind::Letter(letter) if letter.outside => Kind::Letter(Letter::range(0, 255)),
+            Kind::Or(..) | Kind::Seq(..) | Kind::Star(_) => Kind::Empty,
+            _ => continue,
+        };
+        all.push((other.bytes(), start));
     }
     all
 }

@@ -7,10 +7,13 @@ use crate::harness::{check, compare, read, spell, tokens, Harness};
 use referee::bench::refusal;
 use referee::calls::work_need;
 use referee::random::star_nest;
-use referee::table::{Kind, Record, Table};
+use referee::table::{Kind, Letter, Record, Table};
 
 const STACK: usize = 1 << 20;
 const LEVELS: usize = 254;
+
+/// The letters of the tables here. Both hold the byte 0x61 and not 0x60.
+const LETTERS: [Letter; 2] = [Letter::range(0x61, 0x61), Letter::other(0x60, 0x60)];
 
 /// The reading of so many nested Stars with the given counts (level from the
 /// bottom, count); every other level has one iteration.
@@ -86,8 +89,8 @@ fn too_long(h: &mut Harness, table: &[u8], mut reading: Vec<u8>, good: &[u8]) {
 }
 
 fn stars(h: &mut Harness) {
-    let plain = star_nest(LEVELS + 1, 0).bytes();
-    let tagged = star_nest(LEVELS + 1, 9).bytes();
+    let plain = star_nest(LETTERS[0], LEVELS + 1, 0).bytes();
+    let tagged = star_nest(LETTERS[1], LEVELS + 1, 9).bytes();
     let listed: Vec<u8> = (0..255).flat_map(|i| [9, i, 1]).collect();
     let line = [0x61; 255];
     let start = LEVELS as u64;
@@ -114,9 +117,11 @@ fn stars(h: &mut Harness) {
     h.from("Read by 254 Stars");
     let count = low.len() as u64 / 2;
     let need = work_need(LEVELS + 1, 255);
-    h.put_known(read(&plain, start, &line, need), low.len() + 5, count, &low);
     let short = refusal(11) + low.len() as u64;
-    h.put_known(read(&plain, start, &line, need), low.len() - 1, short, &[]);
+    for table in [&plain, &tagged] {
+        h.put_known(read(table, start, &line, need), low.len() + 5, count, &low);
+        h.put_known(read(table, start, &line, need), low.len() - 1, short, &[]);
+    }
 
     // At the end of the spine, three iterations of one byte in place of one
     // of one byte and one of two.
@@ -143,9 +148,9 @@ fn stars(h: &mut Harness) {
     h.put_known(compare(&plain, start, &thin, &high), 0, refusal(14), &[]);
 }
 
-/// Readings of over 10 MB.
+/// Readings of over 10 MB, over both letters by turns.
 fn millions(h: &mut Harness) {
-    let plain = star_nest(LEVELS + 1, 0).bytes();
+    let tables = LETTERS.map(|letter| star_nest(letter, LEVELS + 1, 0).bytes());
     let good = nest(LEVELS, &[(254, 255)]);
     let readings = [
         ("wide on top", nest(LEVELS, &[(254, 255), (253, 80)])),
@@ -153,19 +158,19 @@ fn millions(h: &mut Harness) {
         ("255 iterations each, the last one deep", spine(LEVELS, 255, true)),
         ("255 iterations each, the first one deep", spine(LEVELS, 255, false)),
     ];
-    for (name, reading) in readings {
+    for ((name, reading), table) in readings.into_iter().zip(tables.iter().cycle()) {
         assert!(reading.len() > 10_000_000);
         h.from(format!("254 Stars, {name}"));
-        too_long(h, &plain, reading, &good);
+        too_long(h, table, reading, &good);
     }
 }
 
-/// A comb of 127 Or or Seq over Ranges of the letter a.
+/// A comb of 127 Or or Seq over both letters by turns.
 fn comb(seq: bool, left: bool) -> Table {
-    let leaf = Record { kind: Kind::Range(0x61, 0x61), tag: 0 };
-    let mut records = vec![leaf];
+    let leaf = |i: usize| Record { kind: Kind::Letter(LETTERS[i % 2]), tag: 0 };
+    let mut records = vec![leaf(0)];
     for top in (0..254).step_by(2) {
-        records.push(leaf);
+        records.push(leaf(top / 2 + 1));
         let (a, b) = if left { (top, top + 1) } else { (top + 1, top) };
         records.push(Record { kind: if seq { Kind::Seq(a, b) } else { Kind::Or(a, b) }, tag: 0 });
     }
@@ -180,7 +185,7 @@ fn all_calls(h: &mut Harness, table: &Table, reading: &[u8], line: &[u8], listed
     let request = read(&bytes, m as u64 - 1, line, work_need(m, line.len()));
     h.put_known(request, reading.len(), reading.len() as u64 / 2, reading);
     let mut bad = reading.to_vec();
-    *bad.last_mut().expect("a byte") = 0x62;
+    *bad.last_mut().expect("a byte") = 0x60;
     refused(h, &bytes, &bad, reading, 12);
 }
 
@@ -207,7 +212,7 @@ fn combs(h: &mut Harness) {
     h.put_known(compare(&table, 254, &far, &near), 0, 2, &[]);
 
     h.from("126 tagged Empties beside a byte, 255 times over");
-    let mut records = vec![Record { kind: Kind::Range(0x61, 0x61), tag: 0 }];
+    let mut records = vec![Record { kind: Kind::Letter(LETTERS[0]), tag: 0 }];
     for top in (0..252).step_by(2) {
         records.push(Record { kind: Kind::Empty, tag: 200 });
         records.push(Record { kind: Kind::Seq(top, top + 1), tag: 0 });

@@ -20,11 +20,37 @@ pub fn pack(answer: Result<u64, Refusal>) -> u64 {
     }
 }
 
+/// What spells one byte: a Range, within its bounds, or an Other, outside them.
+#[derive(Clone, Copy, PartialEq, Eq, Hash, Debug)]
+pub struct Letter {
+    pub a: u8,
+    pub b: u8,
+    pub outside: bool,
+}
+
+impl Letter {
+    pub const fn range(a: u8, b: u8) -> Self {
+        Letter { a, b, outside: false }
+    }
+
+    pub const fn other(a: u8, b: u8) -> Self {
+        Letter { a, b, outside: true }
+    }
+
+    pub fn holds(self, c: u8) -> bool {
+        if self.outside {
+            c < self.a || c > self.b
+        } else {
+            self.a <= c && c <= self.b
+        }
+    }
+}
+
 #[derive(Clone, Copy, PartialEq, Eq, Debug)]
 pub enum Kind {
     Nothing,
     Empty,
-    Range(u8, u8),
+    Letter(Letter),
     Or(usize, usize),
     Seq(usize, usize),
     Star(usize),
@@ -71,7 +97,7 @@ pub fn record_bytes(record: Record) -> [u8; 4] {
     match record.kind {
         Kind::Nothing => [0, 0, 0, tag],
         Kind::Empty => [1, 0, 0, tag],
-        Kind::Range(a, b) => [2, a, b, tag],
+        Kind::Letter(Letter { a, b, outside }) => [if outside { 6 } else { 2 }, a, b, tag],
         Kind::Or(a, b) => [3, a as u8, b as u8, tag],
         Kind::Seq(a, b) => [4, a as u8, b as u8, tag],
         Kind::Star(a) => [5, a as u8, 0, tag],
@@ -86,7 +112,7 @@ pub fn check(bytes: &[u8]) -> Result<Table, Refusal> {
     let mut records: Vec<Record> = Vec::new();
     for (k, field) in bytes.chunks(4).enumerate() {
         let (kind, a, b, tag) = (field[0], field[1], field[2], field[3]);
-        if kind > 5 {
+        if kind > 6 {
             return refuse(2, k);
         }
         let a_is_zero = kind == 0 || kind == 1;
@@ -94,14 +120,14 @@ pub fn check(bytes: &[u8]) -> Result<Table, Refusal> {
         if (a_is_zero && a != 0) || (b_is_zero && b != 0) {
             return refuse(3, k);
         }
-        if kind == 2 && a > b {
+        if (kind == 2 || kind == 6) && a > b {
             return refuse(4, k);
         }
         let (r1, r2) = (usize::from(a), usize::from(b));
         let kind = match kind {
             0 => Kind::Nothing,
             1 => Kind::Empty,
-            2 => Kind::Range(a, b),
+            2 | 6 => Kind::Letter(Letter { a, b, outside: kind == 6 }),
             3 => Kind::Or(r1, r2),
             4 => Kind::Seq(r1, r2),
             _ => Kind::Star(r1),
@@ -137,12 +163,15 @@ mod tests {
         assert_eq!(answer(&[1, 0, 0]), (1, 0));
         assert_eq!(answer(&[1, 0, 0, 0].repeat(255)), (0, 255));
         assert_eq!(answer(&[1, 0, 0, 0].repeat(256)), (1, 0));
-        assert_eq!(answer(&[1, 0, 0, 9, 6, 9, 9, 0]), (2, 1));
+        assert_eq!(answer(&[1, 0, 0, 9, 7, 9, 9, 0]), (2, 1));
         assert_eq!(answer(&[0, 1, 0, 0]), (3, 0));
         assert_eq!(answer(&[1, 0, 1, 0]), (3, 0));
         assert_eq!(answer(&[1, 0, 0, 0, 5, 7, 1, 0]), (3, 1));
         assert_eq!(answer(&[2, 5, 4, 0]), (4, 0));
         assert_eq!(answer(&[2, 5, 5, 0]), (0, 1));
+        assert_eq!(answer(&[1, 0, 0, 0, 6, 5, 4, 0]), (4, 1));
+        assert_eq!(answer(&[6, 5, 5, 0]), (0, 1));
+        assert_eq!(answer(&[6, 0, 255, 0]), (0, 1));
         assert_eq!(answer(&[1, 0, 0, 0, 5, 1, 0, 0]), (5, 1));
         assert_eq!(answer(&[1, 0, 0, 0, 3, 0, 1, 0]), (5, 1));
         assert_eq!(answer(&[1, 0, 0, 0, 3, 0, 0, 0]), (6, 1));
@@ -151,7 +180,23 @@ mod tests {
 
     #[test]
     fn bytes_and_back() {
-        let bytes = [2, 97, 98, 1, 1, 0, 0, 0, 4, 1, 0, 3, 5, 2, 0, 4, 0, 0, 0, 5, 3, 4, 3, 6];
+        let bytes = [
+            2, 97, 98, 1, 1, 0, 0, 0, 4, 1, 0, 3, 5, 2, 0, 4, 0, 0, 0, 5, 3, 4, 3, 6, 6, 97, 98, 7,
+        ];
         assert_eq!(check(&bytes).unwrap().bytes(), bytes);
+    }
+
+    #[test]
+    fn letters() {
+        let held = |letter: Letter| (0..=255).filter(|&c| letter.holds(c)).collect::<Vec<u8>>();
+        let nothing: Vec<u8> = vec![];
+        assert_eq!(held(Letter::range(5, 5)), [5]);
+        assert_eq!(held(Letter::range(254, 255)), [254, 255]);
+        assert_eq!(held(Letter::other(0, 255)), nothing);
+        assert_eq!(held(Letter::other(1, 255)), [0]);
+        assert_eq!(held(Letter::other(0, 253)), [254, 255]);
+        assert_eq!(held(Letter::other(2, 253)), [0, 1, 254, 255]);
+        let all_but_5: Vec<u8> = (0..5).chain(6..=255).collect();
+        assert_eq!(held(Letter::other(5, 5)), all_but_5);
     }
 }

@@ -78,7 +78,7 @@ fn element<'a>(table: &Table, k: usize, bytes: &'a [u8]) -> Option<(Value, usize
     let (&[kind, argument], rest) = bytes.split_first_chunk::<2>()?;
     match (table.kind(k), kind, argument) {
         (Kind::Empty, 0, 0) => Some((Value::Void, 0, rest)),
-        (Kind::Range(a, b), 1, c) if a <= c && c <= b => Some((Value::Byte(c), 1, rest)),
+        (Kind::Letter(letter), 1, c) if letter.holds(c) => Some((Value::Byte(c), 1, rest)),
         (Kind::Or(r1, _), 2, 0) => {
             let (v, n, rest) = element(table, r1, rest)?;
             Some((Value::Left(Rc::new(v)), n, rest))

@@ -4,7 +4,7 @@ use Prim.Native.Nat.{ℕ}
 use native.Mathlib.Omega.{arith}
 use mathlib.Core.List.{List}
 use mathlib.Core.Path.{_≡_, _∙_, sym}
-use Rattle.table.proofs.Passing.{kind-small}
+use Rattle.table.proofs.Passing.{letter-at, kind-nothing}
 use Rattle.table.specs.Records.{kindAt}
 use Rattle.area.specs.Filling.{Cleared}
 use Rattle.area.proofs.Filling.{record-room, row-small, row-room, row-cleared, filled-after}
@@ -38,11 +38,12 @@ fill-empty-requires c κs = (
   sym (c .before .before .kind-at .ensures) ∙ c .before .match .keys1,
 )
 
-fill-range-requires : tie.Need-fill-range-requires
-fill-range-requires c κs = (
-  cleared (c .before .before .before .before .before),
-  sym (c .before .before .kind-at .ensures) ∙ c .before .match .keys2,
-)
+fill-letter-requires : tie.Need-fill-letter-requires
+fill-letter-requires c κs =
+    let s = c .before .before .before .before .before .before .before .before .before .before .before in (
+      cleared (c .before .before .before .before .before),
+      letter-at (s .args .table .now) (s .args .k) (c .before .before .kind-at .ensures) (c .before .match .keys2),
+    )
 
 fill-or-requires : tie.Need-fill-or-requires
 fill-or-requires c κs = (
@@ -71,12 +72,12 @@ returns c = filled-after _ (c .before .before .before .before .before .before .b
     (c .before .before .fill-empty .ensures)
 
 same-length-2 : tie.Need-same-length-2
-same-length-2 c = c .before .before .fill-range .ensures .size
+same-length-2 c = c .before .before .fill-letter .ensures .size
     ∙ c .before .before .before .before .before .before .before .before .clear .ensures .size
 
 returns-2 : tie.Need-returns-2
 returns-2 c = filled-after _ (c .before .before .before .before .before .before .before .before .clear .ensures .size)
-    (c .before .before .fill-range .ensures)
+    (c .before .before .fill-letter .ensures)
 
 same-length-3 : tie.Need-same-length-3
 same-length-3 c = c .before .before .fill-or .ensures .size
@@ -110,16 +111,8 @@ returns-6 c =
     let s = c .before .before .before .before .before .before .before .before .before .before in
     let r = c .match .rest in
     let zero : kindAt (s .args .table .now) (s .args .k) ≡ 0 =
-    omega (
-      arith,
-      kind-small _ (s .pre .sized .passes) _ (s .pre .number),
-      c .before .kind-at .ensures,
-      r .1,
-      r .0 .1,
-      r .0 .0 .1,
-      r .0 .0 .0 .1,
-      r .0 .0 .0 .0 .1,
-    ) in
+    kind-nothing _ (s .pre .sized .passes) _ (s .pre .number) (c .before .kind-at .ensures) (r .0 .0 .0 .0 .1) (r .0 .0 .0 .1) (r .0 .0 .1) (r .0 .1)
+    (r .1) in
     let q = c .before .before .before .before in
     filled-after _ (q .clear .ensures .size) (nothing-filled _ _ _ _ _ (cleared q) zero)
 
@@ -132,7 +125,7 @@ fill-row-spec =
     clear-requires
     kind-at-requires
     fill-empty-requires
-    fill-range-requires
+    fill-letter-requires
     fill-or-requires
     fill-seq-requires
     fill-star-requires

@@ -5,7 +5,7 @@ use native.Mathlib.Omega.{arith}
 use mathlib.Core.Path.{_≡_, sym, _∙_}
 use borrow.Author.Needs.{needs}
 use Rattle.table.specs.Records.{kindAt}
-use Rattle.table.proofs.Passing.{kind-small}
+use Rattle.table.proofs.Passing.{letter-at, kind-nothing}
 use Rattle.matcher.proofs.Positions.{record-there, not-nothing, told-place, or-a, or-b, seq-a, seq-b, seq-searched, star-a, star-searched}
 use Rattle.matcher.proofs.Storing.{stored-length}
 use Rattle.matcher.proofs.Walking.{headed-room, headed-given, headed-walked, left-headed, right-headed, star-headed, seq-room, seq-first, seq-second, seq-walked}
@@ -33,7 +33,7 @@ use Rattle.matcher.proofs.count_iterations.Reads as count-iterations-re
 use Rattle.matcher.proofs.longest_first_part.Reads as longest-first-part-reads
 use Rattle.matcher.proofs.put.Reads as put-reads
 use Rattle.matcher.proofs.walk_empty.Reads as walk-empty-reads
-use Rattle.matcher.proofs.walk_range.Reads as walk-range-reads
+use Rattle.matcher.proofs.walk_letter.Reads as walk-letter-reads
 use Rattle.table.proofs.a_at.Reads as a-at-reads
 use Rattle.table.proofs.b_at.Reads as b-at-reads
 use Rattle.table.proofs.kind_at.Reads as kind-at-reads
@@ -103,8 +103,8 @@ walk-claims t = (
   kind-at-reads.Learnt,
   walk-empty-reads.Asked,
   walk-empty-reads.Learnt,
-  walk-range-reads.Asked,
-  walk-range-reads.Learnt,
+  walk-letter-reads.Asked,
+  walk-letter-reads.Learnt,
   walk-or-below t,
   walk-or.Post,
   walk-seq-below t,
@@ -167,8 +167,10 @@ walk-kind-at-requires t c κs = record-there (c .before .before .before .before 
 walk-walk-empty-requires : (t : ℕ) → walk-lts.Need-walk-empty-requires (walk-claims t) (walk-at t) walk.Post
 walk-walk-empty-requires t c κs = (c .before .before .before .before .before .before .before .pre .1, sym (c .before .before .kind-at .ensures) ∙ c .before .match .keys1)
 
-walk-walk-range-requires : (t : ℕ) → walk-lts.Need-walk-range-requires (walk-claims t) (walk-at t) walk.Post
-walk-walk-range-requires t c κs = (c .before .before .before .before .before .before .before .pre .1, sym (c .before .before .kind-at .ensures) ∙ c .before .match .keys2)
+walk-walk-letter-requires : (t : ℕ) → walk-lts.Need-walk-letter-requires (walk-claims t) (walk-at t) walk.Post
+walk-walk-letter-requires t c κs =
+    let s = c .before .before .before .before .before .before .before in
+    (s .pre .1, letter-at (s .args .table .now) (s .args .k) (c .before .before .kind-at .ensures) (c .before .match .keys2))
 
 walk-walk-or-requires : (t : ℕ) → walk-lts.Need-walk-or-requires (walk-claims t) (walk-at t) walk.Post
 walk-walk-or-requires t c κs = (omega (arith, c .before .before .before .before .before .before .before .pre .0), (c .before .before .before .before .before .before .before .pre .1, sym (c .before .before .kind-at .ensures) ∙ c .before .match .keys3))
@@ -186,10 +188,10 @@ walk-returns : (t : ℕ) → walk-lts.Need-returns (walk-claims t) (walk-at t) w
 walk-returns t c = c .before .before .walk-empty .ensures
 
 walk-same-length-2 : (t : ℕ) → walk-lts.Need-same-length-2 (walk-claims t) (walk-at t) walk.Post
-walk-same-length-2 t c = c .before .before .walk-range .kept .1 .1 .1 .1 .1 .1 .0
+walk-same-length-2 t c = c .before .before .walk-letter .kept .1 .1 .1 .1 .1 .1 .0
 
 walk-returns-2 : (t : ℕ) → walk-lts.Need-returns-2 (walk-claims t) (walk-at t) walk.Post
-walk-returns-2 t c = c .before .before .walk-range .ensures
+walk-returns-2 t c = c .before .before .walk-letter .ensures
 
 walk-same-length-3 : (t : ℕ) → walk-lts.Need-same-length-3 (walk-claims t) (walk-at t) walk.Post
 walk-same-length-3 t c = c .before .before .walk-or .kept .1 .1 .1 .1 .1 .1 .0
@@ -212,16 +214,13 @@ walk-returns-5 t c = c .before .before .walk-star .ensures
 walk-returns-6 : (t : ℕ) → walk-lts.Need-returns-6 (walk-claims t) (walk-at t) walk.Post
 walk-returns-6 t c =
     let zero : kindAt (c .before .before .before .before .before .before .args .table .now) (c .before .before .before .before .before .before .args .k) ≡ 0 =
-    omega (
-      arith,
-      kind-small _ (c .before .before .before .before .before .before .pre .1 .here .passes) _ (c .before .before .before .before .before .before .pre .1 .here .record-inside),
-      c .before .kind-at .ensures,
-      c .match .rest .1,
-      c .match .rest .0 .1,
-      c .match .rest .0 .0 .1,
-      c .match .rest .0 .0 .0 .1,
-      c .match .rest .0 .0 .0 .0 .1,
-    ) in
+    kind-nothing _ (c .before .before .before .before .before .before .pre .1 .here .passes) _ (c .before .before .before .before .before .before .pre .1 .here .record-inside)
+    (c .before .kind-at .ensures)
+    (c .match .rest .0 .0 .0 .0 .1)
+    (c .match .rest .0 .0 .0 .1)
+    (c .match .rest .0 .0 .1)
+    (c .match .rest .0 .1)
+    (c .match .rest .1) in
     absurd (not-nothing (c .before .before .before .before .before .before .pre .1 .here) zero)
 
 abbrev walk-iterations-Inv-loop : walk-iterations-lts.InvT-loop
@@ -366,7 +365,7 @@ pub +walk+walk-iterations+walk-or+walk-seq+walk-star-spec : {M : Type 1} → sta
     walk.Post
     (walk-kind-at-requires t)
     (walk-walk-empty-requires t)
-    (walk-walk-range-requires t)
+    (walk-walk-letter-requires t)
     (walk-walk-or-requires t)
     (walk-walk-seq-requires t)
     (walk-walk-star-requires t)

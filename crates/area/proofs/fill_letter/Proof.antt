@@ -1,13 +1,13 @@
--- `area::fill_range` meets its contract, by the laws of Range.
+-- `area::fill_letter` meets its contract, by the laws of letters.
 -- Assumes nothing.
 use native.Mathlib.Omega.{arith}
 use mathlib.Core.Logic.{inl, inr}
 use mathlib.Core.Path.{_∙_, sym}
 use lib.ListN.{length-set}
 use Rattle.area.proofs.Filling.{record-room, row-small, row-room}
-use Rattle.area.proofs.Records.{range-filled, range-unfilled}
-use Rattle.area.proofs.fill_range.Statement.{statement}
-use Rattle.area.proofs.fill_range.Tie as tie
+use Rattle.area.proofs.Records.{letter-filled, letter-unfilled}
+use Rattle.area.proofs.fill_letter.Statement.{statement}
+use Rattle.area.proofs.fill_letter.Tie as tie
 
 sub-c : tie.Need-sub-c
 sub-c c = omega (arith, c .before .before .before .before .pre .0 .ready .depth)
@@ -15,8 +15,8 @@ sub-c c = omega (arith, c .before .before .before .before .pre .0 .ready .depth)
 shared-slice-read-c : tie.Need-shared-slice-read-c
 shared-slice-read-c c = omega (arith, c .before .before .before .before .before .pre .0 .ready .depth)
 
-in-range-requires : tie.Need-in-range-requires
-in-range-requires c κs = record-room _ _ _ _ _ (c .before .before .before .before .before .pre .0 .ready)
+held-requires : tie.Need-held-requires
+held-requires c κs = record-room _ _ _ _ _ (c .before .before .before .before .before .pre .0 .ready)
 
 row-at-requires : tie.Need-row-at-requires
 row-at-requires c κs = row-small _ _ _ _ _ (c .before .before .before .before .before .before .before .pre .0 .ready)
@@ -36,26 +36,26 @@ returns : tie.Need-returns
 returns c =
     let s = c .before .before .before .before .before .before .before .before in
     let test = c .before .before in
-    range-filled _ _ _ _ _ (s .pre .0) (s .pre .1) (c .before .before .before .before .if1 .taken)
-    (sym (test .in-range .ensures) ∙ c .before .if2 .taken)
+    letter-filled _ _ _ _ _ (s .pre .0) (s .pre .1) (c .before .before .before .before .if1 .taken)
+    (sym (test .held .ensures) ∙ c .before .if2 .taken)
     _
     (c .row-at .ensures)
 
 returns-2 : tie.Need-returns-2
 returns-2 c =
     let s = c .before .before .before .before .before .before .before in
-    range-unfilled _ _ _ _ _ (s .pre .0) (s .pre .1) (inr (sym (c .before .in-range .ensures) ∙ c .if2 .left))
+    letter-unfilled _ _ _ _ _ (s .pre .0) (s .pre .1) (inr (sym (c .before .held .ensures) ∙ c .if2 .left))
 
 returns-3 : tie.Need-returns-3
-returns-3 c = range-unfilled _ _ _ _ _ (c .before .before .before .before .pre .0) (c .before .before .before .before .pre .1) (inl (omega arith))
+returns-3 c = letter-unfilled _ _ _ _ _ (c .before .before .before .before .pre .0) (c .before .before .before .before .pre .1) (inl (omega arith))
 
-pub fill-range-spec : {M : Type 1} → statement M
-fill-range-spec =
+pub fill-letter-spec : {M : Type 1} → statement M
+fill-letter-spec =
     tie.close
     (tie.spec
     sub-c
     shared-slice-read-c
-    in-range-requires
+    held-requires
     row-at-requires
     add-work
     slice-write-work

@@ -1,10 +1,10 @@
--- `matcher::walk_range` meets its contract: a Range's part is one byte and reads as Byte.
+-- `matcher::walk_letter` meets its contract: a letter's part is one byte and reads as Byte.
 -- Assumes nothing.
 use native.Mathlib.Omega.{arith}
 use Rattle.matcher.proofs.Walking.{letter-one, letter-room, letter-walked}
 use borrow.Author.Needs.{needs}
-use Rattle.matcher.proofs.walk_range.Statement.{statement}
-use Rattle.matcher.proofs.walk_range.Tie as tie
+use Rattle.matcher.proofs.walk_letter.Statement.{statement}
+use Rattle.matcher.proofs.walk_letter.Tie as tie
 
 sub-c : tie.Need-sub-c
 sub-c c = search needs
@@ -21,5 +21,5 @@ same-length c = search needs
 returns : tie.Need-returns
 returns c = letter-walked (c .before .before .before .before .before .before .before .before .before .pre .0) (c .before .before .before .before .before .before .before .before .before .pre .1) (c .before .before .put .ensures)
 
-pub walk-range-spec : {M : Type 1} → statement M
-walk-range-spec = tie.close (tie.spec sub-c shared-slice-read-c put-requires same-length returns)
+pub walk-letter-spec : {M : Type 1} → statement M
+walk-letter-spec = tie.close (tie.spec sub-c shared-slice-read-c put-requires same-length returns)
