@@ -4,13 +4,13 @@ use Prim.Native.Nat.{ℕ, zero, suc, _+_, _≤_, _<_}
 use mathlib.Core.Path.{_≡_, refl, sym, _∙_}
 use mathlib.Core.Bool.{Bool, true, false, _&&_}
 use mathlib.Core.List.{List}
-use mathlib.Core.Logic.{_⊎_, inl, inr, ⊎-elim}
+use mathlib.Core.Logic.{inl, inr, ⊎-elim}
 use borrow.Author.Tests.{le-leb, lt-leb, ne-eqb}
 use lib.Dec.{eqb}
 use lib.ListN.{length, getD}
 use Rattle.regex.specs.Expressions.{holds}
 use Rattle.table.specs.Records.{kindAt, aAt, bAt}
-use Rattle.table.specs.Letters.{byteSet}
+use Rattle.table.specs.Letters.{LetterKind, byteSet}
 use Rattle.reading.specs.declared.Shape.{Shape}
 use Rattle.reading.specs.declared.Shape.the-variants.{Leaf, Left, Right, Both, Many, Wrong}
 use Rattle.reading.specs.Walks.{pickShape, letterShape, shapeOf, shapeAt}
@@ -30,16 +30,16 @@ module _ (kind a b x y : ℕ) where
   pub empty-argument : kind ≡ 1 → ¬ (y ≡ 0) → Wrong ≡ shapeOf kind a b x y
   empty-argument k e = rw k (sym (not-second (eqb x 0) y 0 _ _ e))
 
-  letter-shape : (kind ≡ 2) ⊎ (kind ≡ 6) → shapeOf kind a b x y ≡ letterShape (byteSet kind a b) x y
+  letter-shape : LetterKind kind → shapeOf kind a b x y ≡ letterShape (byteSet kind a b) x y
   letter-shape = ⊎-elim (λ (k : kind ≡ 2). rw k) (λ (k : kind ≡ 6). rw k)
 
-  pub letter-leaf : (kind ≡ 2) ⊎ (kind ≡ 6) → x ≡ 1 → holds (byteSet kind a b) y ≡ true → Leaf 1 ≡ shapeOf kind a b x y
+  pub letter-leaf : LetterKind kind → x ≡ 1 → holds (byteSet kind a b) y ≡ true → Leaf 1 ≡ shapeOf kind a b x y
   letter-leaf k e h = rw (letter-shape k) (rw (e, h))
 
-  pub letter-kind : (kind ≡ 2) ⊎ (kind ≡ 6) → ¬ (x ≡ 1) → Wrong ≡ shapeOf kind a b x y
+  pub letter-kind : LetterKind kind → ¬ (x ≡ 1) → Wrong ≡ shapeOf kind a b x y
   letter-kind k e = rw (letter-shape k) (rw (ne-eqb x 1 e))
 
-  pub letter-argument : (kind ≡ 2) ⊎ (kind ≡ 6) → x ≡ 1 → holds (byteSet kind a b) y ≡ false → Wrong ≡ shapeOf kind a b x y
+  pub letter-argument : LetterKind kind → x ≡ 1 → holds (byteSet kind a b) y ≡ false → Wrong ≡ shapeOf kind a b x y
   letter-argument k e h = rw (letter-shape k) (rw (e, h))
 
   pub or-left : kind ≡ 3 → y ≡ 0 → x ≡ 2 → Left a ≡ shapeOf kind a b x y
@@ -70,7 +70,7 @@ module _ (kind a b x y : ℕ) where
   star-kind k e = rw (k, ne-eqb x 5 e)
 
 pub no-kind :
-    (kind a b x y : ℕ) → ¬ (kind ≡ 1) → ¬ ((kind ≡ 2) ⊎ (kind ≡ 6)) → ¬ (kind ≡ 3) → ¬ (kind ≡ 4) → ¬ (kind ≡ 5)
+    (kind a b x y : ℕ) → ¬ (kind ≡ 1) → ¬ (LetterKind kind) → ¬ (kind ≡ 3) → ¬ (kind ≡ 4) → ¬ (kind ≡ 5)
     → Wrong ≡ shapeOf kind a b x y
 no-kind zero a b x y n1 n2 n3 n4 n5 = refl
 no-kind (suc zero) a b x y n1 n2 n3 n4 n5 = absurd (n1 refl)

@@ -5,19 +5,19 @@
 use Prim.Native.Nat.{ℕ, zero, suc, _+_, _≤_, _<_}
 use native.Mathlib.Omega.{arith}
 use native.Mathlib.Nat.{eq-or-lt-of-le}
-use mathlib.Core.Path.{_≡_, refl, ap, _∙_}
-use mathlib.Core.Logic.{_⊎_, inl, inr, ⊎-elim}
+use mathlib.Core.Path.{_≡_, refl, ap}
+use mathlib.Core.Logic.{_⊎_, ⊎-elim}
 use mathlib.Core.Bool.{Bool, true, false, _&&_, _||_, cond}
 use mathlib.Core.List.{List}
 use lib.Dec.{eqb}
 use borrow.Author.Tests.{eq-eqb}
-use Rattle.regex.specs.Expressions.{nothing}
 use Rattle.regex.specs.Nodes.{nodes}
 use Rattle.table.specs.Records.{count, kindAt, aAt, bAt}
 use Rattle.table.specs.Faults.{namesA, namesB, names, namedBelow, Passes}
 use Rattle.table.specs.Expression.{expOf}
+use Rattle.table.specs.Letters.{LetterKind}
 use Rattle.table.proofs.Laws.{exp-nothing, exp-empty, exp-letter, exp-or, exp-seq, exp-star}
-use Rattle.table.proofs.Passing.{letter-at, kind-small, a-below, b-below, star-a-below, children-differ, fresh, or-true-left, or-true-right, two-names, star-names}
+use Rattle.table.proofs.Passing.{kinds, letter-at, kind-small, a-below, b-below, star-a-below, children-differ, fresh, or-true-left, or-true-right, two-names, star-names}
 
 -- f 0 + .. + f (n - 1)
 sum : (ℕ → ℕ) → ℕ → ℕ
@@ -86,16 +86,6 @@ weight-less : (t : List ℕ) (k j : ℕ) → weight t (suc k) j ≤ weight t k j
 unfolding weight
 weight-less t k j = cond-less (names t k j) (namedBelow t k j) _
 
-kinds : (n : ℕ) → n < 7 → ((n ≡ 0) ⊎ (n ≡ 1) ⊎ ((n ≡ 2) ⊎ (n ≡ 6))) ⊎ ((n ≡ 3) ⊎ (n ≡ 4)) ⊎ (n ≡ 5)
-kinds zero l = inl (inl refl)
-kinds (suc zero) l = inl (inr (inl refl))
-kinds (suc (suc zero)) l = inl (inr (inr (inl refl)))
-kinds (suc (suc (suc zero))) l = inr (inl (inl refl))
-kinds (suc (suc (suc (suc zero)))) l = inr (inl (inr refl))
-kinds (suc (suc (suc (suc (suc zero))))) l = inr (inr refl)
-kinds (suc (suc (suc (suc (suc (suc zero)))))) l = inl (inr (inr (inr refl)))
-kinds (suc (suc (suc (suc (suc (suc (suc n))))))) l = absurd (omega arith)
-
 module _ (t : List ℕ) (p : Passes t) (k : ℕ) (l : k < count t) where
   names-a : namesA t k ≡ true → names t k (aAt t k) ≡ true
   names-a e = rw (e, eq-eqb (aAt t k) _ refl)
@@ -156,7 +146,7 @@ module _ (t : List ℕ) (p : Passes t) (k : ℕ) (l : k < count t) where
       (λ (e : kindAt t k ≡ 0). step-plain (ap nodes (exp-nothing t k e)))
       (⊎-elim
       (λ (e : kindAt t k ≡ 1). step-plain (ap nodes (exp-empty t k e)))
-      (λ (e : (kindAt t k ≡ 2) ⊎ (kindAt t k ≡ 6)). step-plain (ap nodes (exp-letter t k (letter-at t k refl e))))))
+      (λ (e : LetterKind (kindAt t k)). step-plain (ap nodes (exp-letter t k (letter-at t k refl e))))))
       (⊎-elim step-two step-star)
       (kinds (kindAt t k) (kind-small t p k l))
 

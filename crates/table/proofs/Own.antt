@@ -12,6 +12,7 @@ use borrow.Author.Tests.{le-leb, lt-ltb, le-ltb, eq-eqb, ne-eqb}
 use Rattle.table.specs.Records.{kindAt, aAt, bAt}
 use Rattle.table.specs.Answers.{Said, refuses}
 use Rattle.table.specs.Checked.{orElse}
+use Rattle.table.specs.Letters.{LetterKind}
 use Rattle.table.specs.Steps.{ownFaultOr}
 use Rattle.table.proofs.Passing.{or-true-left, or-true-right}
 
@@ -38,7 +39,7 @@ module _ {t : List ℕ} {k kind a b : ℕ} (read : Bytes t k kind a b) (said : S
       rw (← e, ← read .kind-is, ← read .a-is, ← read .b-is)
       (⊎-elim (λ (z : kind ≡ 0). rw z) (λ (z : kind ≡ 1). rw z) (either 0 kind (omega arith) l))
 
-  bounds : {x : Bool} → (kind ≡ 2) ⊎ (kind ≡ 6) → ltb b a ≡ x → orElse x (refuses 4 k) said ≡ ownFaultOr t k said
+  bounds : {x : Bool} → LetterKind kind → ltb b a ≡ x → orElse x (refuses 4 k) said ≡ ownFaultOr t k said
   bounds l e =
       rw (← e, ← read .kind-is, ← read .a-is, ← read .b-is)
       (⊎-elim (λ (z : kind ≡ 2). rw z) (λ (z : kind ≡ 6). rw z) l)
@@ -64,10 +65,10 @@ module _ {t : List ℕ} {k kind a b : ℕ} (read : Bytes t k kind a b) (said : S
   pub plain-free : kind < 2 → a ≡ 0 → b ≡ 0 → said ≡ ownFaultOr t k said
   plain-free l e f = plain l (or-both (not (eqb a 0)) _ (ap not (eq-eqb a 0 e)) (ap not (eq-eqb b 0 f)))
 
-  pub bounds-bad : (kind ≡ 2) ⊎ (kind ≡ 6) → b < a → refuses 4 k ≡ ownFaultOr t k said
+  pub bounds-bad : LetterKind kind → b < a → refuses 4 k ≡ ownFaultOr t k said
   bounds-bad e l = bounds e (lt-ltb b a l)
 
-  pub bounds-free : (kind ≡ 2) ⊎ (kind ≡ 6) → a ≤ b → said ≡ ownFaultOr t k said
+  pub bounds-free : LetterKind kind → a ≤ b → said ≡ ownFaultOr t k said
   bounds-free e l = bounds e (le-ltb b a l)
 
   pub two-a : 2 < kind → kind < 5 → k ≤ a → refuses 5 k ≡ ownFaultOr t k said

@@ -11,6 +11,7 @@ use lib.Dec.{ltb, eqb}
 use lib.ListN.{length}
 use borrow.Author.Tests.{leb-false, ltb-true, ltb-false, eqb-true, eqb-false, not-false}
 use Rattle.table.specs.Records.{count, kindAt, aAt, bAt, isRange, isOther, isLetter}
+use Rattle.table.specs.Letters.{LetterKind}
 use Rattle.table.specs.Faults.{namesA, namesB, unusedA, unusedB, names, namedBelow, badNamed, Passes}
 
 -- a test of two parts is false, or true, by its parts
@@ -54,10 +55,10 @@ both-free-b x y z w e f = rw f at (or-false-right (x && y) _ e)
 
 -- the kinds of a letter, and the fields that are children's numbers, by kind
 module _ (t : List ℕ) (k : ℕ) where
-  pub letter-kinds : isLetter t k ≡ true → (kindAt t k ≡ 2) ⊎ (kindAt t k ≡ 6)
+  pub letter-kinds : isLetter t k ≡ true → LetterKind (kindAt t k)
   letter-kinds e = ⊎-map (eqb-true (kindAt t k) 2) (eqb-true (kindAt t k) 6) (or-true (isRange t k) (isOther t k) e)
 
-  pub letter-at : {kind : ℕ} → kind ≡ kindAt t k → (kind ≡ 2) ⊎ (kind ≡ 6) → isLetter t k ≡ true
+  pub letter-at : {kind : ℕ} → kind ≡ kindAt t k → LetterKind kind → isLetter t k ≡ true
   letter-at {kind} e = ⊎-elim (λ (z : kind ≡ 2). rw (sym e ∙ z)) (λ (z : kind ≡ 6). rw (sym e ∙ z))
 
   pub two-names : (kindAt t k ≡ 3) ⊎ (kindAt t k ≡ 4) → (namesA t k ≡ true) × (namesB t k ≡ true)
@@ -96,24 +97,30 @@ named-later t j (suc k) c l e =
     (λ (q : suc j < suc k). or-true-right (names t k c) _ (named-later t j k c (omega arith) e))
     (eq-or-lt-of-le l)
 
-no-other : (n : ℕ) → n < 7 → ¬ (n ≡ 1) → ¬ ((n ≡ 2) ⊎ (n ≡ 6)) → ¬ (n ≡ 3) → ¬ (n ≡ 4) → ¬ (n ≡ 5) → n ≡ 0
-no-other zero l n1 n2 n3 n4 n5 = refl
-no-other (suc zero) l n1 n2 n3 n4 n5 = absurd (n1 refl)
-no-other (suc (suc zero)) l n1 n2 n3 n4 n5 = absurd (n2 (inl refl))
-no-other (suc (suc (suc zero))) l n1 n2 n3 n4 n5 = absurd (n3 refl)
-no-other (suc (suc (suc (suc zero)))) l n1 n2 n3 n4 n5 = absurd (n4 refl)
-no-other (suc (suc (suc (suc (suc zero))))) l n1 n2 n3 n4 n5 = absurd (n5 refl)
-no-other (suc (suc (suc (suc (suc (suc zero)))))) l n1 n2 n3 n4 n5 = absurd (n2 (inr refl))
-no-other (suc (suc (suc (suc (suc (suc (suc n))))))) l n1 n2 n3 n4 n5 = absurd (omega arith)
+-- the kinds: without a child, with two, with one
+pub kinds : (n : ℕ) → n < 7 → ((n ≡ 0) ⊎ (n ≡ 1) ⊎ LetterKind n) ⊎ ((n ≡ 3) ⊎ (n ≡ 4)) ⊎ (n ≡ 5)
+kinds zero l = inl (inl refl)
+kinds (suc zero) l = inl (inr (inl refl))
+kinds (suc (suc zero)) l = inl (inr (inr (inl refl)))
+kinds (suc (suc (suc zero))) l = inr (inl (inl refl))
+kinds (suc (suc (suc (suc zero)))) l = inr (inl (inr refl))
+kinds (suc (suc (suc (suc (suc zero))))) l = inr (inr refl)
+kinds (suc (suc (suc (suc (suc (suc zero)))))) l = inl (inr (inr (inr refl)))
+kinds (suc (suc (suc (suc (suc (suc (suc n))))))) l = absurd (omega arith)
 
 module _ (t : List ℕ) (p : Passes t) (k : ℕ) (l : k < count t) where
   pub kind-small : kindAt t k < 7
   kind-small = leb-false 7 (kindAt t k) (p .free-2 k l)
 
   -- a record of none of the other kinds is a Nothing
-  pub kind-nothing : {kind : ℕ} → kind ≡ kindAt t k → ¬ (kind ≡ 1) → ¬ ((kind ≡ 2) ⊎ (kind ≡ 6)) → ¬ (kind ≡ 3) → ¬ (kind ≡ 4)
-      → ¬ (kind ≡ 5) → kindAt t k ≡ 0
-  kind-nothing {kind} e n1 n2 n3 n4 n5 = sym e ∙ no-other kind (omega (arith, kind-small)) n1 n2 n3 n4 n5
+  pub kind-nothing : {kind : ℕ} → kind ≡ kindAt t k → ¬ (kind ≡ 1) → ¬ (LetterKind kind) → ¬ (kind ≡ 3) → ¬ (kind ≡ 4) → ¬ (kind ≡ 5)
+      → kindAt t k ≡ 0
+  kind-nothing {kind} e n1 n2 n3 n4 n5 =
+      sym e
+      ∙ ⊎-elim
+      (⊎-elim (λ z. z) (⊎-elim (λ z. absurd (n1 z)) (λ z. absurd (n2 z))))
+      (⊎-elim (⊎-elim (λ z. absurd (n3 z)) (λ z. absurd (n4 z))) (λ z. absurd (n5 z)))
+      (kinds kind (omega (arith, kind-small)))
 
   -- the fields that the kind does not use
   pub unused-a-zero : unusedA t k ≡ true → aAt t k ≡ 0

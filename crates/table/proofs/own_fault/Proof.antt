@@ -1,8 +1,8 @@
 -- `table::own_fault` meets its contract: one law of Own for each way out. Assumes nothing.
 use native.Mathlib.Omega.{arith}
-use mathlib.Core.Path.{_≡_}
-use mathlib.Core.Logic.{_⊎_, ⊎-elim, ⊎-map}
+use mathlib.Core.Logic.{⊎-elim, ⊎-map}
 use borrow.Author.Tests.{leb-true, leb-false, eqb-true, eqb-false, not-true, not-false}
+use Rattle.table.specs.Letters.{LetterKind}
 use Rattle.table.proofs.Own.{Bytes, neither, own-kind, plain-a, plain-b, plain-free, bounds-bad, bounds-free, two-a, two-b, two-free, star-unused, star-child, star-free}
 use Rattle.table.proofs.own_fault.Statement.{statement}
 use Rattle.table.proofs.own_fault.Tie as tie
@@ -27,8 +27,7 @@ bytes : (c : tie.After-b-at)
 bytes c = record { kind-is = c .before .before .kind-at .ensures; a-is = c .before .a-at .ensures; b-is = c .b-at .ensures }
 
 -- the arm of the letters
-letter : (c : tie.At-match-keys1)
-    → (c .before .before .before .kind-at .result ≡ 2) ⊎ (c .before .before .before .kind-at .result ≡ 6)
+letter : (c : tie.At-match-keys1) → LetterKind (c .before .before .before .kind-at .result)
 letter c = ⊎-map (λ e. omega arith) (λ e. omega arith) (c .match .keys1)
 
 returns : tie.Need-returns
