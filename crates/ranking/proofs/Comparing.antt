@@ -22,7 +22,7 @@ use Rattle.reading.specs.Fitting.{stepped}
 use Rattle.reading.specs.Walks.{shapeAt, leaf}
 use Rattle.reading.specs.Fitted.{Fitted, FittedItems, spanWith}
 use Rattle.reading.proofs.Walks.{stepped-on, Known, Shaped, shaped}
-use Rattle.reading.proofs.Fitted.{fitted-reads, fitted-leaf, fitted-left, fitted-right, fitted-other, fitted-many, FittedBoth, fitted-both, items-reads}
+use Rattle.reading.proofs.Fitted.{fitted-reads, fitted-leaf, fitted-left, fitted-right, fitted-wrong, fitted-many, FittedBoth, fitted-both, items-reads}
 use Rattle.ranking.specs.declared.Compared.{Compared}
 use Rattle.ranking.specs.Answers.{verdictNumber}
 use Rattle.ranking.specs.Walks.{comparedAs, FittedPair, Compares, ComparesBySize, ComparesPairs, ComparesItems}
@@ -85,7 +85,7 @@ tagged t k bs at (Right c) h x = sym (ap tag (fitted-right t k bs at c h x .1))
 tagged t k bs at (Both c d) h x = sym (ap tag (fitted-both t k c d bs at (h .known .0) h x .value-both))
 tagged t k bs at (Many c n) h x =
     tag-star (items-reads t c n bs (at + 2) (record { value = x .value; rest = x .rest; found = sym (h .decoded) ∙ x .found }))
-tagged t k bs at Wrong h x = absurd (fitted-other t k bs at h x)
+tagged t k bs at Wrong h x = absurd (fitted-wrong t k bs at h x)
 
 -- the shapes that two parts by one record can have
 abbrev Alike : Shape → Shape → Type 0
@@ -426,5 +426,5 @@ module _ {t : List ℕ} {k : ℕ} {bs : List ℕ} {at : ℕ} {cs : List ℕ} {bt
     pub no-arm-many : {c m : ℕ} → s ≡ Many c m → ((d n : ℕ) → u ≡ Many d n → ⊥) → ⊥
     no-arm-many {c} {m} g h = let a : (i : ℕ) × (u ≡ Many c i) = met (Many c m) u g refl .both in h c (a .0) (a .1)
 
-    pub no-arm-other : s ≡ Wrong → ⊥
-    no-arm-other g = met Wrong u g refl .both
+    pub no-arm-wrong : s ≡ Wrong → ⊥
+    no-arm-wrong g = met Wrong u g refl .both

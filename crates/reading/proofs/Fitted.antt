@@ -60,8 +60,8 @@ module _ (t : List ℕ) (k : ℕ) (bs : List ℕ) (at : ℕ) where
       (record { value = u .0; rest = x .rest; found = u .1 }, u .2, refl)
 
   -- a record that does not fit starts no part
-  pub fitted-other : Shaped t k bs at Wrong → ¬ (Fitted t k bs at)
-  fitted-other s x = let e : unfit ≡ fits (x .value) (x .rest) = sym (s .decoded) ∙ x .found in let z : _≡_ {A = ℕ} 0 1 = cc in omega arith
+  pub fitted-wrong : Shaped t k bs at Wrong → ¬ (Fitted t k bs at)
+  fitted-wrong s x = let e : unfit ≡ fits (x .value) (x .rest) = sym (s .decoded) ∙ x .found in let z : _≡_ {A = ℕ} 0 1 = cc in omega arith
 
   -- Stars
   pub fitted-many : (c n : ℕ) → Shaped t k bs at (Many c n) → Fitted t k bs at → FittedItems t c n bs (at + 2)

@@ -20,7 +20,7 @@ use Rattle.reading.specs.Fitting.{stepped}
 use Rattle.reading.specs.Walks.{leaf, shapeAt, fitAt, isFound}
 use Rattle.reading.specs.Fitted.{Fitted, FittedItems, spanWith}
 use Rattle.reading.proofs.Walks.{Known, Shaped, shaped, stepped-on}
-use Rattle.reading.proofs.Fitted.{fitted-found, fitted-leaf, fitted-left, fitted-right, fitted-other, FittedBoth, fitted-both, fitted-none, FittedMore, fitted-more, items-reads}
+use Rattle.reading.proofs.Fitted.{fitted-found, fitted-leaf, fitted-left, fitted-right, fitted-wrong, FittedBoth, fitted-both, fitted-none, FittedMore, fitted-more, items-reads}
 use Rattle.tokens.specs.declared.Listing.{Listing}
 use Rattle.tokens.specs.Tokens.{Token, outermost, tokensBelow, tokensFrom, tokenBytes}
 use Rattle.tokens.specs.Walks.{itemTokens, Room, Part, Parts, Listed, ListsPart, ListsItems}
@@ -324,7 +324,7 @@ module _ (t : List ℕ) (k : ℕ) (z : tagAt t k ≡ 0) (bs : List ℕ) (at offs
         rw (stepped-on bs at (h .known .0))
         (h .known .0, h .known .1, h .known .2, first-child c d (h .known) h, λ new r a. second c d (h .known) h new r a)
     walked-shaped (Many c n) h = rw (stepped-on bs at (h .known .0)) (h .known .0, h .known .1, walked-many c n (h .known) h .0, walked-many c n (h .known) h .1)
-    walked-shaped Wrong h = fitted-other t k bs at h (p .fitted)
+    walked-shaped Wrong h = fitted-wrong t k bs at h (p .fitted)
 
 -- the shape that `look` told and the place that `step` moved, at a record whose tag is 0
 pub walked :

@@ -10,7 +10,7 @@ use borrow.Fn.PlainCycle.{Measures, is, falls, and}
 use Rattle.reading.proofs.Place.step.Reads as step-reads
 use Rattle.reading.proofs.look.Reads as look-reads
 use Rattle.ranking.proofs.Iterating.{Running, run-start, run-inside, run-within, run-items, run-others, run-item, run-other, run-room, run-next, run-end-room, run-end}
-use Rattle.ranking.proofs.Comparing.{not-right, not-left, not-many, Looked, arm-leaf, arm-lefts, arm-rights, arm-left-right, arm-right-left, arm-boths, arm-manys, no-arm-many, no-arm-other}
+use Rattle.ranking.proofs.Comparing.{not-right, not-left, not-many, Looked, arm-leaf, arm-lefts, arm-rights, arm-left-right, arm-right-left, arm-boths, arm-manys, no-arm-many, no-arm-wrong}
 use Rattle.ranking.proofs.Verdicts.{back-first, back-second, back-inside, back-within, pair-room, pairs-compared}
 use Rattle.ranking.proofs.compare_both.Reads as compare-both
 use Rattle.ranking.proofs.compare_both.Kinds as compare-both-kinds
@@ -257,7 +257,7 @@ compare-element-returns-8 : (t : ℕ) → compare-element-lts.Need-returns-8 (el
 compare-element-returns-8 t c = λ x y. c .same-size2 .ensures ∙ arm-leaf (looked t (c .before .before .before .before)) (c .before .before .size .given .1) x y
 
 compare-element-returns-9 : (t : ℕ) → compare-element-lts.Need-returns-9 (element-claims t) (compare-element-at t) compare-element.Post
-compare-element-returns-9 t c = absurd (no-arm-other (looked t (c .before .before .before)) (c .before .enum-told .given .1))
+compare-element-returns-9 t c = absurd (no-arm-wrong (looked t (c .before .before .before)) (c .before .enum-told .given .1))
 
 abbrev compare-iterations-Inv-loop : compare-iterations-lts.InvT-loop
 compare-iterations-Inv-loop table c first m second n left₀ more others a₀ b₀ first-size₀ second-size₀ verdict₀ left a b first-size second-size verdict =
