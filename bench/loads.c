@@ -1,5 +1,5 @@
 /*
- * The work loads. A tag on a part is a token for us and a capture group for the peers. Inside a star we list every iteration and a
+ * The work loads. A tag on a part is a token for us and a capture group for the peers, where it is not empty. Inside a star we list every iteration and a
  * capture group keeps the last, so the last token of each tag is compared. Only the ambiguous loads have tags inside a star.
  */
 #include <stdlib.h>

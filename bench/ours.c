@@ -49,7 +49,7 @@ int main(int argc, char **argv)
     double ms = atof(argv[2]);
     work = malloc(work_len = trace_work_size(load.records, load.line_len));
     reading = malloc(reading_len = trace_reading_size(load.records, load.line_len));
-    tokens = malloc(tokens_len = trace_tokens_size(load.records, load.line_len));
+    tokens = malloc(tokens_len = trace_tokens_size(load.line_len));
     if (!work || !reading || !tokens)
         return 2;
     if (trace_check(load.table, 4 * load.records) != load.records) {

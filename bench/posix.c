@@ -38,7 +38,7 @@ int main(int argc, char **argv)
     else
         for (int i = 0; i < load.tokens; i++) {
             const regmatch_t *m = &found[load.group[i]];
-            if (m->rm_so >= 0)
+            if (m->rm_eo > m->rm_so)
                 printf("%d:%d+%d ", load.tag[i], (int)m->rm_so, (int)(m->rm_eo - m->rm_so));
         }
     printf("\n");

@@ -33,7 +33,7 @@ int main(int argc, char **argv)
     if (!matched)
         std::printf("no match");
     for (int i = 0; matched && i < work_load.tokens; i++)
-        if (found[i + 1].data())
+        if (found[i + 1].size())
             std::printf("%d:%d+%d ", work_load.tag[i], (int)(found[i + 1].data() - work_load.line), (int)found[i + 1].size());
     std::printf("\n");
     return 0;

@@ -109,8 +109,8 @@ repeat it: \`make bench\` prints the table; \`bash bench/run.sh --markdown >docs
 Debian packages libtre-dev, libre2-dev, and ghc with libghc-regex-tdfa-dev bring the others.
 
 - Each work load is one expression tree in \`bench/loads.c\`, written out as our table and as an anchored POSIX expression (for RE2 with
-  capture groups for the tokens only). A token is a capture group. Inside a star a group keeps the last iteration, so the
-  last token of each tag is compared.
+  capture groups for the tokens only). A token is a capture group that is not empty. Inside a star a group keeps the last
+  iteration, so the last token of each tag is compared.
 - Times are microseconds for one line: the best of 5 repeats of about $MS ms. Checking the table and compiling the expression are outside.
 - The ratio is the peer's time through ours: above 1 we are faster, below 1 the peer is.
 - ≠: the peer's spans differ from our tokens. cut: no answer within $CUT s. failed: the engine gave up, for instance out of memory.

@@ -67,5 +67,5 @@ main = do
     pairs _ = []
     token :: MatchArray -> (Int, Int) -> String
     token spans (tag, group)
-      | group > snd (bounds spans) || fst (spans ! group) < 0 = ""
+      | group > snd (bounds spans) || snd (spans ! group) == 0 = ""
       | otherwise = printf "%d:%d+%d " tag (fst (spans ! group)) (snd (spans ! group))

@@ -31,7 +31,7 @@ static const uint8_t table[] = {
     TRACE_RANGE, ' ', ' ', 0,         /*  9: space */
     TRACE_SEQ, 8, 9, 0,               /* 10: time and space */
     TRACE_RANGE, 'a', 'z', 0,         /* 11: small letter */
-    TRACE_STAR, 11, 0, SENSOR,        /* 12: small letters: a token */
+    TRACE_STAR, 11, 0, SENSOR,        /* 12: small letters: a token, unless there is none */
     TRACE_SEQ, 10, 12, 0,             /* 13: time, space and sensor */
     TRACE_RANGE, ' ', ' ', 0,         /* 14: space */
     TRACE_SEQ, 13, 14, 0,             /* 15: time, space, sensor and space */
@@ -126,7 +126,7 @@ int main(void)
         return 2;
     size_t readings = trace_reading_size(RECORDS, TRACE_MAX_LINE);
     Buffers buffers = {buffer_of(trace_work_size(RECORDS, TRACE_MAX_LINE)), buffer_of(readings),
-                       buffer_of(trace_tokens_size(RECORDS, TRACE_MAX_LINE)), buffer_of(readings)};
+                       buffer_of(trace_tokens_size(TRACE_MAX_LINE)), buffer_of(readings)};
 
     char *line = NULL;
     size_t room = 0;

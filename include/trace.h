@@ -26,9 +26,9 @@
 extern "C" {
 #endif
 
-/* The version, as numbers and as text ("1.1.0"). Another major number says that a format or a call's result has changed. */
-#define TRACE_VERSION_MAJOR 1
-#define TRACE_VERSION_MINOR 1
+/* The version, as numbers and as text ("2.0.0"). Another major number says that a format or a call's result has changed. */
+#define TRACE_VERSION_MAJOR 2
+#define TRACE_VERSION_MINOR 0
 #define TRACE_VERSION_PATCH 0
 #define TRACE_TEXT_OF(macro) TRACE_TEXT(macro)
 #define TRACE_TEXT(word) #word
@@ -48,7 +48,7 @@ extern "C" {
  * is named twice: nothing is shared, so a rule with two digits has two records for them.
  *
  * The tag is the name, 1 to 255, of a token; 0 is no tag. Any record may have one. An outer tag hides those inside it: a token is one whole
- * part, and trace_tokens does not look for others in it.
+ * part, and trace_tokens does not look for others in it. A tagged part that spells no byte, as an optional field that is absent, is no token.
  *
  * One table may hold several rules, each with a start number of its own: records that the start record does not reach are allowed. A table
  * that trace_check passes may be lent up to its start record alone, as 4 * (start + 1) bytes. It passes too, the readings and tokens are the
@@ -123,8 +123,8 @@ static inline size_t trace_work_size(size_t records, size_t line_len) { return r
 /* A reading buffer that is always long enough. */
 static inline size_t trace_reading_size(size_t records, size_t line_len) { return TRACE_READING_RECORD * records * (line_len ? line_len : 1); }
 
-/* A token buffer that is always long enough. */
-static inline size_t trace_tokens_size(size_t records, size_t line_len) { return TRACE_TOKEN * records * (line_len ? line_len : 1); }
+/* A token buffer that is always long enough, whatever the table: there is at most one token for each byte of the line. */
+static inline size_t trace_tokens_size(size_t line_len) { return TRACE_TOKEN * line_len; }
 
 /*
  * Checks a table. Result: its number of records. Refusals: 1 to 6; records are looked at upward, and the first fault is the answer.
@@ -154,9 +154,9 @@ uint64_t trace_compare(const uint8_t *table, size_t table_len, uint64_t start, c
                        const uint8_t *second, size_t second_len);
 
 /*
- * Lists the tokens of a reading: for each outermost tagged part 3 bytes (tag, offset in the line, length) to the front of out, parts of
- * length 0 too; the later bytes are left. Result: the number of tokens. Refusals, in this order: 1 to 6, 9, 12, 13, 11; a refusal
- * leaves out as it was.
+ * Lists the tokens of a reading: for each outermost tagged part of at least one byte 3 bytes (tag, offset in the line, length) to the front
+ * of out; the later bytes are left. Result: the number of tokens. Refusals, in this order: 1 to 6, 9, 12, 13, 11; a refusal leaves out as
+ * it was.
  */
 uint64_t trace_tokens(const uint8_t *table, size_t table_len, uint64_t start, const uint8_t *reading, size_t reading_len, uint8_t *out,
                       size_t out_len);

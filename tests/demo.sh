@@ -10,5 +10,5 @@ bash demo/build-table.sh demo/rules.txt >"$dir/rules.tab"
 echo "the trace:"
 cat demo/trace.txt
 echo
-echo "its tokens, a tag, an offset and a length each (1 time, 2 sensor, 3 temperature, 4 free text):"
+echo "its tokens, a tag, an offset and a length each (1 time, 2 sensor, 3 value, 4 free text, 5 gust):"
 (cd "$dir" && "$program") <demo/trace.txt

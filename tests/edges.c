@@ -1,6 +1,6 @@
 /*
  * Every refusal of Read, Spell, Compare and Tokens at its edge, with the answers that document 01 states; buffers are compared byte for byte.
- * Other at its bounds. And null pointers with length 0, in all five calls.
+ * Other at its bounds. Empty tagged parts, which are no tokens. And null pointers with length 0, in all five calls.
  * Prints the number of answers, or the first one that is wrong.
  */
 #include <stdio.h>
@@ -157,7 +157,7 @@ int main(void)
     spell("I", t3, 1, stars, 0, 0, empty);
     read("J", t4, 0, empty, 1, 2, 1, void_, 0);
     spell("J", t4, 0, void_, 0, 0, empty);
-    tokens("J", t4, 0, void_, 3, 1, BYTES(7, 0, 0));
+    tokens("J", t4, 0, void_, 3, 0, empty);
 
     /* the worked example of docs/FORMATS.md; its second part is F and G */
     Bytes degrees = BYTES(2, '0', '9', 0, 5, 0, 0, 1, 2, 'C', 'C', 0, 4, 1, 2, 0), line29 = BYTES('2', '9', 'C');
@@ -196,12 +196,24 @@ int main(void)
     expect("Other 5 4", trace_check(BYTES(1, 0, 0, 0, TRACE_OTHER, 5, 4, 0).at, 8), REFUSED(4, 1));
     expect("kind 7", trace_check(BYTES(1, 0, 0, 0, 7, 0, 0, 0).at, 8), REFUSED(2, 1));
 
-    /* the page's two ways to nest (a|ab)(c|bcd)(d*): the tokens 1, 2 and 3 are the three parts */
+    /* the page's two ways to nest (a|ab)(c|bcd)(d*): the tokens 1, 2 and 3 are the three parts, those that are not empty */
 #define PARTS 2, 'a', 'a', 0, 2, 'a', 'a', 0, 2, 'b', 'b', 0, 4, 1, 2, 0, 3, 0, 3, 1, 2, 'c', 'c', 0, 2, 'b', 'b', 0, 2, 'c', 'c', 0, 2, 'd', 'd', 0, \
         4, 6, 7, 0, 4, 9, 8, 0, 3, 5, 10, 2, 2, 'd', 'd', 0, 5, 12, 0, 3
     cut("A(BC)", BYTES(PARTS, 4, 11, 13, 0, 4, 4, 14, 0), 15, BYTES('a', 'b', 'c', 'd'), 3, BYTES(1, 0, 2, 2, 2, 1, 3, 3, 1));
-    cut("(AB)C", BYTES(PARTS, 4, 4, 11, 0, 4, 14, 13, 0), 15, BYTES('a', 'b', 'c', 'd'), 3, BYTES(1, 0, 1, 2, 1, 3, 3, 4, 0));
+    cut("(AB)C", BYTES(PARTS, 4, 4, 11, 0, 4, 14, 13, 0), 15, BYTES('a', 'b', 'c', 'd'), 2, BYTES(1, 0, 1, 2, 1, 3));
 #undef PARTS
+
+    /* empty tagged parts: between two tagged bytes, of a remark, with tagged parts inside; and a tagged part of one byte */
+    Bytes between = BYTES(2, 'a', 'a', 1, 1, 0, 0, 2, 2, 'b', 'b', 3, 4, 1, 2, 0, 4, 0, 3, 0), one = BYTES(2, 'a', 'a', 7);
+    Bytes between_reading = BYTES(4, 0, 1, 'a', 4, 0, 0, 0, 1, 'b');
+    read("a, an empty part, b", between, 4, ab, 30, 10, 5, between_reading, 0);
+    tokens("a, an empty part, b", between, 4, between_reading, 6, 2, BYTES(1, 0, 1, 3, 1, 1));
+    tokens("a, an empty part, b, buffer of 5", between, 4, between_reading, 5, REFUSED(11, 6), empty);
+    tokens("an empty remark", remark, 3, BYTES(4, 0, 5, 0, 1, ';'), 0, 0, empty);
+    tokens("tagged parts inside an empty one", BYTES(1, 0, 0, 1, 1, 0, 0, 2, 4, 0, 1, 3), 2, BYTES(4, 0, 0, 0, 0, 0), 0, 0, empty);
+    tokens("one byte", one, 0, BYTES(1, 'a'), 3, 1, BYTES(7, 0, 1));
+    tokens("one byte, buffer of 2", one, 0, BYTES(1, 'a'), 2, REFUSED(11, 3), empty);
+    tokens("one byte, no buffer", one, 0, BYTES(1, 'a'), 0, REFUSED(11, 3), empty);
 
     /* a table lent up to its start record, and the whole one: 29C's, and behind it more records */
     Bytes more = BYTES(2, '0', '9', 0, 5, 0, 0, 1, 2, 'C', 'C', 0, 4, 1, 2, 0, 2, 'x', 'x', 9, 3, 3, 4, 8);
@@ -225,7 +237,7 @@ int main(void)
     spell("buffer of 2 for abc", t1, 9, c, 2, REFUSED(11, 3), empty);
     tokens("buffer of 6 for two tokens", t1, 9, c, 6, 2, c_tokens);
     tokens("buffer of 5 for two tokens", t1, 9, c, 5, REFUSED(11, 6), empty);
-    tokens("no buffer", t4, 0, void_, 0, REFUSED(11, 3), empty);
+    tokens("no buffer", t4, 0, void_, 0, 0, empty);
     read("buffer of 15 for abc", t1, 9, abc, 100, 15, REFUSED(11, 16), empty, 0);
     read("no buffer", t1, 9, empty, 10, 0, REFUSED(11, 2), empty, 0);
 
@@ -259,13 +271,22 @@ int main(void)
     spell("255 bytes", two, 4, spells[0], 255, 255, (Bytes){as, 255});
     spell("255 bytes into 254", two, 4, spells[0], 254, REFUSED(11, 255), empty);
     spell("256 bytes", two, 4, spells[1], 0, REFUSED(13, 0), empty);
-    tokens("255 bytes", two, 4, spells[0], 6, 2, BYTES(5, 0, 255, 6, 255, 0));
+    tokens("255 bytes", two, 4, spells[0], 3, 1, BYTES(5, 0, 255));
+    tokens("255 bytes, buffer of 2", two, 4, spells[0], 2, REFUSED(11, 3), empty);
     tokens("256 bytes", two, 4, spells[1], 0, REFUSED(13, 0), empty);
     compare("255 bytes", two, 4, spells[0], spells[0], 0);
     compare("13 first", two, 4, spells[1], spells[0], REFUSED(13, 0));
     compare("13 second", two, 4, spells[0], spells[1], REFUSED(13, 1));
     compare("13 both", two, 4, spells[2], spells[1], REFUSED(13, 0));
     compare("12 second before 13 first", two, 4, spells[1], stars, REFUSED(12, 1));
+
+    /* the longest list: the same with the tag 5 on each byte in place of the first star */
+    Bytes each = BYTES(2, 97, 97, 5, 5, 0, 0, 0, 2, 97, 97, 0, 5, 2, 0, 6, 4, 1, 3, 0);
+    uint8_t each_tokens[765];
+    for (int i = 0; i < 255; i++)
+        each_tokens[3 * i] = 5, each_tokens[3 * i + 1] = (uint8_t)i, each_tokens[3 * i + 2] = 1;
+    tokens("255 tagged bytes", each, 4, spells[0], 765, 255, (Bytes){each_tokens, 765});
+    tokens("255 tagged bytes into 764", each, 4, spells[0], 764, REFUSED(11, 765), empty);
 
     /* 14 */
     compare("14", t1, 9, b, c, REFUSED(14, 0));

@@ -49,7 +49,7 @@ static void sizes(void)
 {
     expect("the work area's size", trace_work_size(10, 3) == 100 && trace_work_size(255, 255) == 8388480 && trace_work_size(1, 0) == 1);
     expect("a reading's size", trace_reading_size(10, 3) == 60 && trace_reading_size(10, 0) == 20);
-    expect("the tokens' size", trace_tokens_size(10, 3) == 90 && trace_tokens_size(10, 0) == 30);
+    expect("the tokens' size", trace_tokens_size(3) == 9 && trace_tokens_size(TRACE_MAX_LINE) == 765 && trace_tokens_size(0) == 0);
 }
 
 int main(void)

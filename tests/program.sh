@@ -64,7 +64,7 @@ expect "NUL and high bytes" < <(printf '\0\n\377\200\na')
 
 # a table that spells any line, (0..255)*, tagged 9: the work area is enough for 254 bytes
 printf '\x02\x00\xff\x00\x05\x00\x00\x09' >rules.tab
-says 'line 1 ok 1\n9 0 254\nline 2 ok 1\n9 0 4\nline 3 ok 1\n9 0 0\nline 4 refused 10\nline 5 refused 7\n'
+says 'line 1 ok 1\n9 0 254\nline 2 ok 1\n9 0 4\nline 3 ok 0\nline 4 refused 10\nline 5 refused 7\n'
 expect "254, 4, 0, 255 and 256 bytes" < <(head -c 254 /dev/zero; printf '\n\0\001\377x\n\n'; head -c 255 /dev/zero; printf '\n'; head -c 256 /dev/zero)
 
 # every byte value but 10 in one line, which is one byte too long for the work area; then in two lines that byte 10 alone parts
@@ -88,13 +88,20 @@ printf '\x07\x00\x00\x00' >rules.tab
 says 'table refused 2\n'
 expect "a kind above 6" < <(printf 'a\n')
 
-# the demo's 30 records: the work area is enough for 64 bytes, as README.md says
+# the demo's 39 records: the work area is enough for 56 bytes, as README.md says
 bash "$demo/build-table.sh" "$demo/rules.txt" >rules.tab
-says 'line 1 ok 3\n1 0 5\n2 6 4\n3 11 53\nline 2 refused 10\n'
+says 'line 1 ok 3\n1 0 5\n2 6 4\n3 11 45\nline 2 refused 10\n'
 digits() { head -c "$1" /dev/zero | tr '\0' 7; }
-expect "the demo's table, lines of 64 and 65 bytes" < <(printf '12:04 lift '; digits 53; printf '\n12:04 lift '; digits 54)
+expect "the demo's table, lines of 56 and 57 bytes" < <(printf '12:04 lift '; digits 45; printf '\n12:04 lift '; digits 46)
 says 'line 1 ok 4\n4 0 6\n1 8 5\n2 14 4\n3 19 2\nline 2 refused 8\nline 3 refused 8\n'
 expect "the demo's table, free text up to a semicolon" < <(printf 'a\0\377 b#; 12:04 lift 29\na;b; 12:04 lift 29\nab 12:04 lift 29\n')
+says 'line 1 ok 4\n1 0 5\n2 6 4\n3 11 2\n5 13 3\nline 2 ok 3\n1 0 5\n2 6 4\n3 11 1\nline 3 ok 3\n1 2 5\n2 8 4\n3 13 2\n'
+expect "the demo's table, a gust, none, and free text that is empty" < <(printf '12:05 wind 12g31\n12:06 wind 9\n; 12:04 lift 29\n')
+
+# case J: a tagged Empty
+printf '\x01\x00\x00\x07' >rules.tab
+says 'line 1 ok 0\n'
+expect "an empty line by a tagged Empty" < <(printf '\n')
 
 # the last record is the start: a, then b, each tagged with its number plus 1
 printf '\x02\x61\x61\x01\x02\x62\x62\x02' >rules.tab

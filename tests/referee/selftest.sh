@@ -63,4 +63,9 @@ done <<'LIST'
 32 gate Read writes Other's kind for Byte's
 33 gate fitting takes any byte for Other
 34 gate Tokens does not count Other's byte
+35 gate Tokens lists an empty part
+36 gate Tokens leaves out a part of one byte
+37 gate Tokens moves the offset on by one at an empty part
+38 gate Tokens lists the empty parts inside an empty part
+39 gate Tokens counts the empty parts for refusal 11
 LIST

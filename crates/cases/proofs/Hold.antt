@@ -1,4 +1,4 @@
--- Tables T1 to T4, the cases A to J and those of Other follow from the definitions that the calls' contracts cite: one proof over the list.
+-- Tables T1 to T4, the cases A to J and those of Other and of empty parts follow from the definitions that the calls' contracts cite: one proof over the list.
 -- Assumes nothing.
 use mathlib.Core.Path.{_≡_, refl}
 use mathlib.Core.List.{map}

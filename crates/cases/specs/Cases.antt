@@ -10,7 +10,7 @@ use Rattle.reading.specs.Calls.{spellSays, spellLeaves}
 use Rattle.tokens.specs.Listed.{tokensSays, tokensLeaves}
 use Rattle.ranking.specs.Answers.{compareSays}
 use Rattle.matcher.specs.Calls.{readSays, readLeaves}
-use Rattle.cases.specs.Tables.{T1, T2, T3, T4, Remark, NoByte, AllBut5, Crossed, Kind7}
+use Rattle.cases.specs.Tables.{T1, T2, T3, T4, Remark, NoByte, AllBut5, Crossed, Kind7, Gust, Blank}
 
 -- a call on a table and a start number
 pub data Call : Type 0 where
@@ -81,7 +81,17 @@ Remark-reading = 4 ∷ 0 ∷ 5 ∷ 2 ∷ 1 ∷ 0x61 ∷ 1 ∷ 0x62 ∷ 1 ∷ 0x3
 abbrev pub Remark-unfit : List ℕ
 Remark-unfit = 4 ∷ 0 ∷ 5 ∷ 1 ∷ 1 ∷ 0x3b ∷ 1 ∷ 0x3b ∷ []
 
--- T1 to T4 pass; A to J; the readings spelled back; G the other way round; then Other
+-- the readings of agb and ab by Gust, and of the empty line by Blank
+abbrev pub Gust-there : List ℕ
+Gust-there = 4 ∷ 0 ∷ 1 ∷ 0x61 ∷ 4 ∷ 0 ∷ 2 ∷ 0 ∷ 1 ∷ 0x67 ∷ 1 ∷ 0x62 ∷ []
+
+abbrev pub Gust-absent : List ℕ
+Gust-absent = 4 ∷ 0 ∷ 1 ∷ 0x61 ∷ 4 ∷ 0 ∷ 3 ∷ 0 ∷ 0 ∷ 0 ∷ 1 ∷ 0x62 ∷ []
+
+abbrev pub Blank-reading : List ℕ
+Blank-reading = 4 ∷ 0 ∷ 0 ∷ 0 ∷ 0 ∷ 0 ∷ []
+
+-- T1 to T4 pass; A to J; the readings spelled back; G the other way round; then Other and empty parts
 abbrev pub cases : List Case
 cases =
     case T1 check (gives 10) []
@@ -113,7 +123,7 @@ cases =
     ∷ case T3 (read 1 []) (gives 1) (5 ∷ 0 ∷ [])
     -- J
     ∷ case T4 (read 0 []) (gives 1) (0 ∷ 0 ∷ [])
-    ∷ case T4 (tokens 0 (0 ∷ 0 ∷ [])) (gives 1) (7 ∷ 0 ∷ 0 ∷ [])
+    ∷ case T4 (tokens 0 (0 ∷ 0 ∷ [])) (gives 0) []
     -- Remark
     ∷ case Remark check (gives 4) []
     ∷ case Remark (read 3 (0x61 ∷ 0x62 ∷ 0x3b ∷ [])) (gives 5) Remark-reading
@@ -136,4 +146,12 @@ cases =
     -- Crossed, Kind7
     ∷ case Crossed check (refuses 4 0) []
     ∷ case Kind7 check (refuses 2 0) []
+    -- Gust: there, and absent
+    ∷ case Gust (read 6 (0x61 ∷ 0x67 ∷ 0x62 ∷ [])) (gives 6) Gust-there
+    ∷ case Gust (tokens 6 Gust-there) (gives 3) (1 ∷ 0 ∷ 1 ∷ 2 ∷ 1 ∷ 1 ∷ 3 ∷ 2 ∷ 1 ∷ [])
+    ∷ case Gust (read 6 (0x61 ∷ 0x62 ∷ [])) (gives 6) Gust-absent
+    ∷ case Gust (tokens 6 Gust-absent) (gives 2) (1 ∷ 0 ∷ 1 ∷ 3 ∷ 1 ∷ 1 ∷ [])
+    -- Blank
+    ∷ case Blank (read 2 []) (gives 3) Blank-reading
+    ∷ case Blank (tokens 2 Blank-reading) (gives 0) []
     ∷ []

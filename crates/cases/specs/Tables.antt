@@ -49,6 +49,26 @@ Remark =
     ∷ 4 ∷ 1 ∷ 2 ∷ 0
     ∷ []
 
+-- a, an optional g and b, tokens 1, 2 and 3. Start 6
+abbrev pub Gust : List ℕ
+Gust =
+    2 ∷ 0x61 ∷ 0x61 ∷ 1
+    ∷ 2 ∷ 0x67 ∷ 0x67 ∷ 0
+    ∷ 1 ∷ 0 ∷ 0 ∷ 0
+    ∷ 3 ∷ 1 ∷ 2 ∷ 2
+    ∷ 2 ∷ 0x62 ∷ 0x62 ∷ 3
+    ∷ 4 ∷ 3 ∷ 4 ∷ 0
+    ∷ 4 ∷ 0 ∷ 5 ∷ 0
+    ∷ []
+
+-- two tagged Empties in a tagged Seq. Start 2
+abbrev pub Blank : List ℕ
+Blank =
+    1 ∷ 0 ∷ 0 ∷ 7
+    ∷ 1 ∷ 0 ∷ 0 ∷ 8
+    ∷ 4 ∷ 0 ∷ 1 ∷ 9
+    ∷ []
+
 -- Other from 0 to 255, start 0
 abbrev pub NoByte : List ℕ
 NoByte = 6 ∷ 0 ∷ 255 ∷ 0 ∷ []

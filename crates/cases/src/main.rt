@@ -1,9 +1,9 @@
-// Runs the cases A to J of document 01, and those of document 02's Other, through the calls and writes a line for each: the answer, and the
-// bytes that the call wrote. The tables and readings are those of specs/, which the one proof over the cases covers.
+// Runs the cases A to J of document 01, and those of document 02's Other and empty parts, through the calls and writes a line for each: the
+// answer, and the bytes that the call wrote. The tables and readings are those of specs/, which the one proof over the cases covers.
 
 ghost use mathlib.Core.Path.{_≡_};
-ghost use Rattle.cases.specs.Tables.{T1, T2, T3, T4, Remark, NoByte, AllBut5, Crossed, Kind7};
-ghost use Rattle.cases.specs.Cases.{B-reading, C-reading, D-reading, F-reading, G-rival, Remark-reading, Remark-unfit};
+ghost use Rattle.cases.specs.Tables.{T1, T2, T3, T4, Remark, NoByte, AllBut5, Crossed, Kind7, Gust, Blank};
+ghost use Rattle.cases.specs.Cases.{B-reading, C-reading, D-reading, F-reading, G-rival, Remark-reading, Remark-unfit, Gust-there, Gust-absent, Blank-reading};
 use libc::STDOUT_FILENO;
 use table::Answer;
 
@@ -61,6 +61,18 @@ fn kind_7() -> [u8; 4]
     *b"\x07\x00\x00\x00"
 }
 
+fn gust() -> [u8; 28]
+    ensures { λ r. ⌜ r ≡ Gust ⌝ }
+{
+    *b"\x02\x61\x61\x01\x02\x67\x67\x00\x01\x00\x00\x00\x03\x01\x02\x02\x02\x62\x62\x03\x04\x03\x04\x00\x04\x00\x05\x00"
+}
+
+fn blank() -> [u8; 12]
+    ensures { λ r. ⌜ r ≡ Blank ⌝ }
+{
+    *b"\x01\x00\x00\x07\x01\x00\x00\x08\x04\x00\x01\x09"
+}
+
 fn b_reading() -> [u8; 12]
     ensures { λ r. ⌜ r ≡ B-reading ⌝ }
 {
@@ -101,6 +113,24 @@ fn remark_unfit() -> [u8; 8]
     ensures { λ r. ⌜ r ≡ Remark-unfit ⌝ }
 {
     *b"\x04\x00\x05\x01\x01\x3b\x01\x3b"
+}
+
+fn gust_there() -> [u8; 12]
+    ensures { λ r. ⌜ r ≡ Gust-there ⌝ }
+{
+    *b"\x04\x00\x01\x61\x04\x00\x02\x00\x01\x67\x01\x62"
+}
+
+fn gust_absent() -> [u8; 12]
+    ensures { λ r. ⌜ r ≡ Gust-absent ⌝ }
+{
+    *b"\x04\x00\x01\x61\x04\x00\x03\x00\x00\x00\x01\x62"
+}
+
+fn blank_reading() -> [u8; 6]
+    ensures { λ r. ⌜ r ≡ Blank-reading ⌝ }
+{
+    *b"\x04\x00\x00\x00\x00\x00"
 }
 
 // An answer: `gives` and the result, or `refuses`, the number and the detail.
@@ -266,6 +296,20 @@ fn run_refused() {
     run_check(b"Kind7", &kind_7());
 }
 
+fn run_gust() {
+    let table = gust();
+    run_read(b"Gust agb", &table, 6, b"agb");
+    run_tokens(b"Gust agb tokens", &table, 6, &gust_there());
+    run_read(b"Gust ab", &table, 6, b"ab");
+    run_tokens(b"Gust ab tokens", &table, 6, &gust_absent());
+}
+
+fn run_blank() {
+    let table = blank();
+    run_read(b"Blank", &table, 2, b"");
+    run_tokens(b"Blank tokens", &table, 2, &blank_reading());
+}
+
 fn main() {
     run_t1();
     run_t1_more();
@@ -277,4 +321,6 @@ fn main() {
     run_no_byte();
     run_all_but_5();
     run_refused();
+    run_gust();
+    run_blank();
 }

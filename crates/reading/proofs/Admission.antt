@@ -5,7 +5,7 @@ use mathlib.Core.Path.{_≡_, refl, sym, _∙_, ap}
 use mathlib.Core.Bool.{Bool, true, false, not}
 use mathlib.Core.List.{List}
 use native.Mathlib.Omega.{arith}
-use borrow.Author.Tests.{lt-ltb, le-ltb, ltb-true}
+use borrow.Author.Tests.{lt-ltb, le-ltb, ltb-true, not-false}
 use lib.Dec.{ltb}
 use Rattle.table.specs.declared.Refusal.{Refusal}
 use Rattle.table.specs.declared.Refusal.the-variants.{Size, Kind, Unused, Bounds, Child, Named, Line, NoReading, Start, Work, Buffer, Unfit, Long, Differ}
@@ -27,17 +27,18 @@ pub record Admitted (t : List ℕ) (k : ℕ) : Type 0 where
 pub start-inside : (t : List ℕ) (k : ℕ) → Passes t → k < count t → Admitted t k
 start-inside t k p l = record { passes = p; inside = l; said-on = λ said. rw (check-passes t p, lt-ltb k (count t) l) }
 
-else-gives : (b : Bool) (n d : ℕ) (said : Said) (m : ℕ) → orElse (not b) (refuses n d) said ≡ gives m → b ≡ true
-else-gives true n d said m e = refl
-else-gives false n d said m e = let z : _≡_ {A = ℕ} 0 1 = cc in absurd (omega arith)
+-- where the answer is a result, nothing was refused
+pub or-gives : (b : Bool) (n d : ℕ) (said : Said) (m : ℕ) → orElse b (refuses n d) said ≡ gives m → (b ≡ false) × (said ≡ gives m)
+or-gives true n d said m e = let z : _≡_ {A = ℕ} 0 1 = cc in absurd (omega arith)
+or-gives false n d said m e = (refl, e)
 
--- where the answer is a result
-pub admit-gives : (t : List ℕ) (k m : ℕ) → ifStart t k (gives (count t)) ≡ gives m → Admitted t k
-admit-gives t k m e = go (checked t) refl e
+pub start-gives : (t : List ℕ) (k : ℕ) (said : Said) (m : ℕ) → ifStart t k said ≡ gives m → Admitted t k
+start-gives t k said m e = go (checked t) refl e
   where
-    go : (x : Said) → checked t ≡ x → ifPassed x (orElse (not (ltb k (count t))) (refuses 9 0) (gives (count t))) ≡ gives m → Admitted t k
+    go : (x : Said) → checked t ≡ x → ifPassed x (orElse (not (ltb k (count t))) (refuses 9 0) said) ≡ gives m → Admitted t k
     go (gives n) f g =
-        start-inside t k (check-gives t n f .0) (ltb-true k (count t) (else-gives (ltb k (count t)) 9 0 (gives (count t)) m g))
+        start-inside t k (check-gives t n f .0)
+        (ltb-true k (count t) (not-false (ltb k (count t)) (or-gives (not (ltb k (count t))) 9 0 said m g .0)))
     go (refuses n d) f g = let z : _≡_ {A = ℕ} 0 1 = cc in absurd (omega arith)
 
 else-refuses :
@@ -76,7 +77,7 @@ refusal-numbers Differ = (14, 0, refl)
 
 -- the same of the answer that `admit` hands over
 pub admitted : (t : List ℕ) (k : ℕ) (r : Answer) (m : ℕ) → says r ≡ ifStart t k (gives (count t)) → r ≡ Done m → Admitted t k
-admitted t k r m e f = admit-gives t k m (sym e ∙ ap says f)
+admitted t k r m e f = start-gives t k (gives (count t)) m (sym e ∙ ap says f)
 
 pub not-admitted :
     (t : List ℕ) (k : ℕ) (r : Answer) (why : Refusal) → says r ≡ ifStart t k (gives (count t)) → r ≡ Refused why

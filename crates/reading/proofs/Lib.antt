@@ -8,6 +8,7 @@ pub mod Fitted
 pub mod Parts
 pub mod Wholes
 pub mod Admission
+pub mod Saying
 pub mod Spelling
 pub mod Misfits
 pub mod Writing

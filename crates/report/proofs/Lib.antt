@@ -4,4 +4,5 @@ pub mod Digits
 pub mod TokenLines
 pub mod Cases
 mod Reports
+pub mod Room
 pub mod Long

@@ -5,9 +5,10 @@ use mathlib.Core.Path.{_≡_, refl, sym, _∙_, ap}
 use mathlib.Core.List.{List, [], _∷_, _++_, append-assoc, append-nil}
 use native.Mathlib.Omega.{arith}
 use native.Mathlib.Numerals.{add-one}
-use lib.ListN.{length, take, drop, getD, length-append, length-take, take-append-drop}
+use lib.ListN.{length, take, drop, getD, length-append, take-append-drop}
 use lib.Seq.{getD-drop, length-take-le}
 use Rattle.tokens.specs.Tokens.{Token, tokenBytes}
+use Rattle.tokens.proofs.Counts.{bytes-count}
 use Rattle.report.specs.Text.{decimal, okWord}
 use Rattle.report.specs.Report.{tokenLine, tokenLines, okLine}
 use Rattle.report.specs.Writes.{Wrote, lineWith}
@@ -45,14 +46,10 @@ tokens-front : (xs : List Token) (rest : List ℕ) → tokensOf (length xs) (tok
 tokens-front [] rest = refl
 tokens-front (x ∷ xs) rest = ap (λ (ys : List Token). x ∷ ys) (tokens-front xs rest)
 
-pub length-bytes : (xs : List Token) → length (tokenBytes xs) ≡ 3 * length xs
-length-bytes [] = refl
-length-bytes (x ∷ xs) = omega (arith, length-bytes xs)
-
 -- the records are those of xs
 pub tokens-are : (n : ℕ) (s : List ℕ) (xs : List Token) → 3 * n ≤ length s → take (3 * n) s ≡ tokenBytes xs → tokensOf n s ≡ xs
 tokens-are n s xs h e =
-    let l : n ≡ length xs = omega (arith, length-bytes xs, ap length e, length-take-le (3 * n) s h) in
+    let l : n ≡ length xs = omega (arith, bytes-count xs, ap length e, length-take-le (3 * n) s h) in
     let whole : s ≡ tokenBytes xs ++ drop (3 * n) s = sym (take-append-drop (3 * n) s) ∙ ap (λ (u : List ℕ). u ++ drop (3 * n) s) e in
     ap (λ (k : ℕ). tokensOf k s) l ∙ ap (tokensOf (length xs)) whole ∙ tokens-front xs (drop (3 * n) s)
 

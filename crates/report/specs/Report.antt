@@ -9,10 +9,7 @@ use Rattle.regex.specs.Decision.{Parsed, found, missing, parse}
 use Rattle.table.specs.Answers.{Said, gives, refuses}
 use Rattle.table.specs.Checked.{checked}
 use Rattle.table.specs.Expression.{expOf}
-use Rattle.reading.specs.Codec.{encode}
-use Rattle.reading.specs.Calls.{bytesOf}
 use Rattle.tokens.specs.Tokens.{Token, tokensFrom}
-use Rattle.tokens.specs.Listed.{tokensSays}
 use Rattle.matcher.specs.Calls.{readSays}
 use Rattle.report.specs.Text.{decimal, lineWord, okWord, refusedWord, tableWord, failureWord}
 
@@ -42,20 +39,14 @@ refusedLine number r = lineWord ++ (decimal number ++ (refusedWord ++ (decimal r
 abbrev pub okLine : ℕ → List Token → List ℕ
 okLine number xs = lineWord ++ (decimal number ++ (okWord ++ (decimal (length xs) ++ (10 ∷ tokenLines xs))))
 
--- by what Tokens says
-abbrev pub listed : ℕ → Said → List Token → List ℕ
-listed number (gives n) xs = okLine number xs
-listed number (refuses r d) xs = refusedLine number r
-
 -- the tokens of the line's reading
 abbrev pub lineTokens : List ℕ → ℕ → Parsed → List Token
 lineTokens t k (found v) = tokensFrom t k v 0
 lineTokens t k missing = []
 
--- by what Read says
+-- by what Read says. Tokens gives the tokens of every line that Read reads: the buffer holds 765 bytes (proofs/Reports.tokens-given)
 abbrev pub reported : List ℕ → ℕ → ℕ → List ℕ → Said → List ℕ
-reported t k number s (gives n) =
-    listed number (tokensSays t k (bytesOf (parse (expOf t k) s) (λ v. encode v)) tokenLength) (lineTokens t k (parse (expOf t k) s))
+reported t k number s (gives n) = okLine number (lineTokens t k (parse (expOf t k) s))
 reported t k number s (refuses r d) = refusedLine number r
 
 -- what is printed for line s with its number, by table t from record k

@@ -1,14 +1,16 @@
 -- What the functions that write text at a moving position leave.
 -- Assumes nothing.
-use Prim.Native.Nat.{ℕ, _+_}
+use Prim.Native.Nat.{ℕ, _+_, _≤_, _<_}
 use mathlib.Core.Path.{_≡_}
 use mathlib.Core.List.{List, [], _∷_, _++_}
 use lib.ListN.{length}
 use lib.Seq.{sets}
-use Rattle.reading.specs.Fitting.{readingOf}
-use Rattle.tokens.specs.Listed.{tokensSays}
+use Rattle.regex.specs.Values.{flat}
+use Rattle.table.specs.Records.{count}
+use Rattle.table.specs.Faults.{Passes}
+use Rattle.reading.specs.Fitting.{Fits, readingOf}
 use Rattle.report.specs.Text.{decimal, lineWord}
-use Rattle.report.specs.Report.{tokenLength, listed, lineTokens}
+use Rattle.report.specs.Report.{okLine, lineTokens}
 
 -- the bytes stand in the buffer from a position on, the others are left, and next is the position after them
 pub record Wrote (entry exit : List ℕ) (at next : ℕ) (bytes : List ℕ) : Type 0 where
@@ -19,6 +21,13 @@ pub record Wrote (entry exit : List ℕ) (at next : ℕ) (bytes : List ℕ) : Ty
 abbrev pub lineWith : ℕ → List ℕ → ℕ → List ℕ
 lineWith number word n = lineWord ++ (decimal number ++ (word ++ (decimal n ++ (10 ∷ []))))
 
--- what is printed for a line whose reading stands in bytes bs, by table t from record k
+-- bytes that are a reading of at most 255 line bytes, by table t from record k
+pub record LineReading (t : List ℕ) (k : ℕ) (bs : List ℕ) : Type 0 where
+  pub passes : Passes t
+  pub inside : k < count t
+  pub fitting : Fits t k bs
+  pub short : length (flat (fitting .value)) ≤ 255
+
+-- what is printed for a line whose reading stands in bytes bs
 abbrev pub readingReport : List ℕ → ℕ → ℕ → List ℕ → List ℕ
-readingReport t k number bs = listed number (tokensSays t k bs tokenLength) (lineTokens t k (readingOf t k bs))
+readingReport t k number bs = okLine number (lineTokens t k (readingOf t k bs))

@@ -8,7 +8,7 @@ ghost use Rattle.table.specs.Answers.{refuses, refusal};
 ghost use Rattle.tokens.specs.Tokens.{Token, tokenBytes};
 ghost use Rattle.report.specs.Text.{decimal, okWord, refusedWord, tableWord};
 ghost use Rattle.report.specs.Report.{tokenLine, tokenLines, refusedLine, workLength, readingLength, tokenLength, lineReport, tableReport, failureText};
-ghost use Rattle.report.specs.Writes.{Wrote, lineWith, readingReport};
+ghost use Rattle.report.specs.Writes.{Wrote, lineWith, LineReading, readingReport};
 use table::Answer;
 use table::Refusal;
 
@@ -133,7 +133,7 @@ fn refusal_number(why: Refusal) -> u64
     numbers.number as u64
 }
 
-// Writes what is printed for a line whose reading is given, and returns its length.
+// Writes what is printed for a line whose reading is given, and returns its length. Tokens does not refuse it.
 fn report_reading(
     table: &[u8],
     start: usize,
@@ -142,6 +142,7 @@ fn report_reading(
     list: &mut [u8],
     out: &mut [u8],
 ) -> usize
+    requires reading { ⌜ LineReading (now table) start (now reading) ⌝ }
     requires list { ⌜ length (now list) ≡ tokenLength ⌝ }
     requires out { ⌜ 32768 ≤ length (now out) ⌝ }
     ensures bound { λ r. ⌜ r ≤ 32768 ⌝ }
@@ -153,7 +154,7 @@ fn report_reading(
             let at = put_ok(out, number, count as u64);
             put_tokens(out, at, list, count)
         }
-        Answer::Refused(why) => put_refused(out, number, refusal_number(why)),
+        Answer::Refused(_) => 0,
     }
 }
 

@@ -33,7 +33,7 @@ use Rattle.tokens.specs.declared.Listing.{Listing}
 use Rattle.tokens.specs.Tokens.{Token, tokensFrom, tokenBytes}
 use Rattle.tokens.specs.Listed.{tokensSays, tokensLeaves}
 use Rattle.tokens.specs.Walks.{Part, Listed, ListsPart}
-use Rattle.tokens.proofs.Counts.{tokens-count, bytes-count, few-records}
+use Rattle.tokens.proofs.Counts.{tokens-count, bytes-count}
 use Rattle.reading.proofs.Writing.{sets-front}
 
 -- what is said of a fitting reading that spells at most 255 bytes
@@ -103,8 +103,7 @@ module _ {t : List ℕ} {k : ℕ} {bs : List ℕ} (out : List ℕ) (a : Admitted
         bounds =
             record {
               near = omega arith;
-              low =
-                  omega (arith, tokens-count t k (w .fitting .value) 0, few-records t k (w .fitting .value) (a .passes) (a .inside) (w .fitting .reads) m);
+              low = omega (arith, tokens-count t k (w .fitting .value) 0);
               room = λ e. omega (arith, room e);
             };
       }

@@ -1,4 +1,5 @@
 -- Tokens: the laws that upper crates cite.
+pub mod Filters
 pub mod Counts
 pub mod Text
 pub mod Writing

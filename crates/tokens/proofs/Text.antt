@@ -1,14 +1,15 @@
--- The tokens are the outermost tagged parts, each with its own offset and length in the line (document 01, "Tokens").
+-- The tokens are the outermost tagged parts of at least one byte, each with its own offset and length in the line (document 01, "Tokens", and
+-- request 2).
 -- Assumes nothing.
 use Prim.Native.Nat.{ℕ, zero, suc, _+_}
 use mathlib.Core.Path.{_≡_, refl, sym, _∙_, ap, ap₂}
 use mathlib.Core.List.{List, [], _∷_, _++_, append-assoc, append-nil, map, map-append}
-use native.Mathlib.Omega.{arith}
 use lib.ListN.{length, take, drop, length-append}
 use lib.Seq.{take-at, drop-at}
 use Rattle.regex.specs.Values.{Val, void, byte, left, right, pair, none, more, flat}
 use Rattle.table.specs.Records.{aAt, bAt, tagAt}
-use Rattle.tokens.specs.Tokens.{Token, outermost, tokensBelow, tokensFrom, Tagged, outermostPart, taggedBelow, taggedParts, Named, textAt, textOf}
+use Rattle.tokens.specs.Tokens.{Token, outermost, placedBelow, placedParts, filter, hasSize, tokensFrom, Tagged, outermostPart, taggedBelow, taggedParts, hasBytes, Named, textAt, textOf}
+use Rattle.tokens.proofs.Filters.{filter-append}
 
 -- a line with a part at an offset
 record Placed (s : List ℕ) (at : ℕ) (u : List ℕ) : Type 0 where
@@ -45,49 +46,61 @@ second-part u w p =
 abbrev one : Named → List Named
 one x = x ∷ []
 
--- a part by its tag
-outer-text :
-    (s : List ℕ) (tag at : ℕ) (v : Val) (xs : List Token) (ys : List Tagged) → Placed s at (flat v)
-    → map (textAt s) xs ≡ map textOf ys
-    → map (textAt s) (outermost tag at (length (flat v)) xs) ≡ map textOf (outermostPart tag v ys)
-outer-text s zero at v xs ys p e = e
-outer-text s (suc tag) at v xs ys p e =
-    ap (λ (u : List ℕ). one (record { tag = suc tag; text = u })) (text-here p)
+-- the texts of the parts of at least one byte, once with their places and once with their values
+abbrev SameTexts : List ℕ → List Token → List Tagged → Type 0
+SameTexts s xs ys = map (textAt s) (filter hasSize xs) ≡ map textOf (filter hasBytes ys)
 
-below-text : (s t : List ℕ) (k : ℕ) (v : Val) (at : ℕ) → Placed s at (flat v) → map (textAt s) (tokensBelow t k v at) ≡ map textOf (taggedBelow t k v)
+-- a part by its tag
+alone-text :
+    (s : List ℕ) (tag at : ℕ) (v : Val) (n : ℕ) → Placed s at (flat v) → length (flat v) ≡ n
+    → SameTexts s (record { tag = suc tag; offset = at; size = length (flat v) } ∷ []) (record { tag = suc tag; value = v } ∷ [])
+alone-text s tag at v zero p e = rw e refl
+alone-text s tag at v (suc n) p e = rw e (ap (λ (u : List ℕ). one (record { tag = suc tag; text = u })) (rw e at (text-here p)))
+
+outer-text :
+    (s : List ℕ) (tag at : ℕ) (v : Val) (xs : List Token) (ys : List Tagged) → Placed s at (flat v) → SameTexts s xs ys
+    → SameTexts s (outermost tag at (length (flat v)) xs) (outermostPart tag v ys)
+outer-text s zero at v xs ys p e = e
+outer-text s (suc tag) at v xs ys p e = alone-text s tag at v (length (flat v)) p refl
+
+-- two parts
+both-text : (s : List ℕ) (xs ys : List Token) (us ws : List Tagged) → SameTexts s xs us → SameTexts s ys ws → SameTexts s (xs ++ ys) (us ++ ws)
+both-text s xs ys us ws e f =
+    ap (map (textAt s)) (filter-append hasSize xs ys)
+    ∙ map-append (textAt s) (filter hasSize xs) (filter hasSize ys)
+    ∙ ap₂ _++_ e f
+    ∙ sym (map-append textOf (filter hasBytes us) (filter hasBytes ws))
+    ∙ ap (map textOf) (sym (filter-append hasBytes us ws))
+
+part-text :
+    (s t : List ℕ) (k : ℕ) (v : Val) (at : ℕ) → Placed s at (flat v) → SameTexts s (placedBelow t k v at) (taggedBelow t k v)
+    → SameTexts s (placedParts t k v at) (taggedParts t k v)
+part-text s t k v at = outer-text s (tagAt t k) at v (placedBelow t k v at) (taggedBelow t k v)
+
+below-text : (s t : List ℕ) (k : ℕ) (v : Val) (at : ℕ) → Placed s at (flat v) → SameTexts s (placedBelow t k v at) (taggedBelow t k v)
 below-text s t k void at p = refl
 below-text s t k (byte c) at p = refl
-below-text s t k (left v) at p = outer-text s (tagAt t (aAt t k)) at v (tokensBelow t (aAt t k) v at) (taggedBelow t (aAt t k) v) p (below-text s t (aAt t k) v at p)
-below-text s t k (right v) at p = outer-text s (tagAt t (bAt t k)) at v (tokensBelow t (bAt t k) v at) (taggedBelow t (bAt t k) v) p (below-text s t (bAt t k) v at p)
+below-text s t k (left v) at p = part-text s t (aAt t k) v at p (below-text s t (aAt t k) v at p)
+below-text s t k (right v) at p = part-text s t (bAt t k) v at p (below-text s t (bAt t k) v at p)
 below-text s t k (pair v w) at p =
-    let x : List Token = outermost (tagAt t (aAt t k)) at (length (flat v)) (tokensBelow t (aAt t k) v at) in
-    let y : List Token =
-    outermost (tagAt t (bAt t k)) (at + length (flat v)) (length (flat w)) (tokensBelow t (bAt t k) w (at + length (flat v))) in
-    let x′ : List Tagged = outermostPart (tagAt t (aAt t k)) v (taggedBelow t (aAt t k) v) in
-    let y′ : List Tagged = outermostPart (tagAt t (bAt t k)) w (taggedBelow t (bAt t k) w) in
+    let next : ℕ = at + length (flat v) in
     let f : Placed s at (flat v) = first-part (flat v) (flat w) p in
-    let g : Placed s (at + length (flat v)) (flat w) = second-part (flat v) (flat w) p in
-    map-append (textAt s) x y
-    ∙ ap₂ _++_
-    (outer-text s (tagAt t (aAt t k)) at v (tokensBelow t (aAt t k) v at) (taggedBelow t (aAt t k) v) f (below-text s t (aAt t k) v at f))
-    (outer-text s (tagAt t (bAt t k)) (at + length (flat v)) w (tokensBelow t (bAt t k) w (at + length (flat v)))
-    (taggedBelow t (bAt t k) w) g (below-text s t (bAt t k) w (at + length (flat v)) g))
-    ∙ sym (map-append textOf x′ y′)
+    let g : Placed s next (flat w) = second-part (flat v) (flat w) p in
+    both-text s (placedParts t (aAt t k) v at) (placedParts t (bAt t k) w next) (taggedParts t (aAt t k) v) (taggedParts t (bAt t k) w)
+    (part-text s t (aAt t k) v at f (below-text s t (aAt t k) v at f))
+    (part-text s t (bAt t k) w next g (below-text s t (bAt t k) w next g))
 below-text s t k none at p = refl
 below-text s t k (more v w) at p =
-    let x : List Token = outermost (tagAt t (aAt t k)) at (length (flat v)) (tokensBelow t (aAt t k) v at) in
-    let x′ : List Tagged = outermostPart (tagAt t (aAt t k)) v (taggedBelow t (aAt t k) v) in
+    let next : ℕ = at + length (flat v) in
     let f : Placed s at (flat v) = first-part (flat v) (flat w) p in
-    let g : Placed s (at + length (flat v)) (flat w) = second-part (flat v) (flat w) p in
-    map-append (textAt s) x (tokensBelow t k w (at + length (flat v)))
-    ∙ ap₂ _++_
-    (outer-text s (tagAt t (aAt t k)) at v (tokensBelow t (aAt t k) v at) (taggedBelow t (aAt t k) v) f (below-text s t (aAt t k) v at f))
-    (below-text s t k w (at + length (flat v)) g)
-    ∙ sym (map-append textOf x′ (taggedBelow t k w))
+    both-text s (placedParts t (aAt t k) v at) (placedBelow t k w next) (taggedParts t (aAt t k) v) (taggedBelow t k w)
+    (part-text s t (aAt t k) v at f (below-text s t (aAt t k) v at f))
+    (below-text s t k w next (second-part (flat v) (flat w) p))
 
--- the bytes of the line at the tokens' places are the bytes that the outermost tagged parts spell, in order and with their tags
-pub tokens-text : (t : List ℕ) (k : ℕ) (v : Val) → map (textAt (flat v)) (tokensFrom t k v 0) ≡ map textOf (taggedParts t k v)
-tokens-text t k v = outer-text (flat v) (tagAt t k) 0 v (tokensBelow t k v 0) (taggedBelow t k v) here (below-text (flat v) t k v 0 here)
+-- the bytes of the line at the tokens' places are the bytes that the outermost tagged parts of at least one byte spell, in order and with their
+-- tags
+pub tokens-text : (t : List ℕ) (k : ℕ) (v : Val) → map (textAt (flat v)) (tokensFrom t k v 0) ≡ map textOf (filter hasBytes (taggedParts t k v))
+tokens-text t k v = part-text (flat v) t k v 0 here (below-text (flat v) t k v 0 here)
   where
     here : Placed (flat v) 0 (flat v)
     here = record { before = []; after = []; whole = sym (append-nil (flat v)); offset = refl }

@@ -3,7 +3,7 @@
 -- Assumes nothing.
 use Prim.Native.Nat.{ℕ, _+_, _≤_, _<_}
 use native.Mathlib.Omega.{arith}
-use mathlib.Core.Path.{_≡_, refl, ap₂}
+use mathlib.Core.Path.{_≡_, refl, ap, ap₂}
 use mathlib.Core.List.{List, _++_}
 use lib.ListN.{length}
 use Rattle.regex.specs.Expressions.{Exp}
@@ -13,16 +13,16 @@ use Rattle.table.specs.Faults.{Passes}
 use Rattle.table.specs.Expression.{expOf}
 use Rattle.table.proofs.Children.{Node, node-or, node-seq, node-star, node}
 use Rattle.table.proofs.UpTo.{SameRecords, up-to-records}
-use Rattle.tokens.specs.Tokens.{tokensBelow, tokensFrom}
+use Rattle.tokens.specs.Tokens.{placedBelow, placedParts, filter, hasSize, tokensFrom}
 
 module _ {t u : List ℕ} {n : ℕ} (s : SameRecords t u n) (p : Passes t) (m : n ≤ count t) where
-  -- a part's tokens, by those below its record
+  -- the outermost tagged parts of a part, by those below its record
   same-from :
-      (j : ℕ) → j < n → (v : Val) (at : ℕ) → (Node t j (expOf t j) → tokensBelow u j v at ≡ tokensBelow t j v at)
-      → tokensFrom u j v at ≡ tokensFrom t j v at
+      (j : ℕ) → j < n → (v : Val) (at : ℕ) → (Node t j (expOf t j) → placedBelow u j v at ≡ placedBelow t j v at)
+      → placedParts u j v at ≡ placedParts t j v at
   same-from j l v at f = rw (s .tag j l, f (node t p j (omega arith)))
 
-  same-below : (j : ℕ) → j < n → {e : Exp} {v : Val} → Reads e v → (at : ℕ) → Node t j e → tokensBelow u j v at ≡ tokensBelow t j v at
+  same-below : (j : ℕ) → j < n → {e : Exp} {v : Val} → Reads e v → (at : ℕ) → Node t j e → placedBelow u j v at ≡ placedBelow t j v at
   same-below j l reads-void at b = refl
   same-below j l (reads-byte h) at b = refl
   same-below j l (reads-left {v = v} r) at (node-or x y) =
@@ -45,4 +45,5 @@ module _ {t u : List ℕ} {n : ℕ} (s : SameRecords t u n) (p : Passes t) (m : 
 pub up-to-tokens :
     (t : List ℕ) (k : ℕ) → Passes t → k < count t → (v : Val) → Reads (expOf t k) v → (at : ℕ) → tokensFrom (upTo t k) k v at ≡ tokensFrom t k v at
 up-to-tokens t k p l v r at =
-    same-from (up-to-records t k) p (omega arith) k (omega arith) v at (same-below (up-to-records t k) p (omega arith) k (omega arith) r at)
+    ap (filter hasSize)
+    (same-from (up-to-records t k) p (omega arith) k (omega arith) v at (same-below (up-to-records t k) p (omega arith) k (omega arith) r at))

@@ -22,8 +22,9 @@ use Rattle.reading.specs.Fitted.{Fitted, FittedItems, spanWith}
 use Rattle.reading.proofs.Walks.{Known, Shaped, shaped, stepped-on}
 use Rattle.reading.proofs.Fitted.{fitted-found, fitted-leaf, fitted-left, fitted-right, fitted-wrong, FittedBoth, fitted-both, fitted-none, FittedMore, fitted-more, items-reads}
 use Rattle.tokens.specs.declared.Listing.{Listing}
-use Rattle.tokens.specs.Tokens.{Token, outermost, tokensBelow, tokensFrom, tokenBytes}
+use Rattle.tokens.specs.Tokens.{Token, outermost, placedBelow, placedParts, filter, hasSize, tokensFrom, tokenBytes}
 use Rattle.tokens.specs.Walks.{itemTokens, Room, Part, Parts, Listed, ListsPart, ListsItems}
+use Rattle.tokens.proofs.Filters.{filter-append}
 use Rattle.tokens.proofs.Counts.{bytes-count}
 use Rattle.reading.specs.Writing.{wrote}
 use Rattle.reading.proofs.Writing.{wrote-more, wrote-none, wrote-length}
@@ -33,17 +34,20 @@ use Rattle.tokens.proofs.Writing.{bytes-append}
 items-same : {t : List ℕ} {c n : ℕ} {bs : List ℕ} {at : ℕ} (x y : FittedItems t c n bs at) → (x .value ≡ y .value) × (x .rest ≡ y .rest)
 items-same x y = let e : fits (x .value) (x .rest) ≡ fits (y .value) (y .rest) = sym (x .found) ∙ y .found in (cc, cc)
 
--- the tokens of a part whose record has no tag, and of one that has
-untagged : (tag at n : ℕ) (xs : List Token) → tag ≡ 0 → outermost tag at n xs ≡ xs
+-- the tokens of a part whose record has no tag, and of one that has: the part alone, or none if it is empty
+untagged : (tag at n : ℕ) (xs : List Token) → tag ≡ 0 → filter hasSize (outermost tag at n xs) ≡ filter hasSize xs
 untagged zero at n xs e = refl
 untagged (suc tag) at n xs e = absurd (omega arith)
 
-abbrev alone : Token → List Token
-alone x = x ∷ []
-
-tagged : (tag at n : ℕ) (xs : List Token) → ¬ (tag ≡ 0) → outermost tag at n xs ≡ record { tag = tag; offset = at; size = n } ∷ []
+tagged :
+    (tag at n : ℕ) (xs : List Token) → ¬ (tag ≡ 0)
+    → filter hasSize (outermost tag at n xs) ≡ filter hasSize (record { tag = tag; offset = at; size = n } ∷ [])
 tagged zero at n xs e = absurd (e refl)
 tagged (suc tag) at n xs e = refl
+
+sized : (tag at n : ℕ) → 0 < n → filter hasSize (record { tag = tag; offset = at; size = n } ∷ []) ≡ record { tag = tag; offset = at; size = n } ∷ []
+sized tag at zero l = absurd (omega arith)
+sized tag at (suc n) l = refl
 
 module _ (t : List ℕ) (k : ℕ) (z : tagAt t k ≡ 0) (at : ℕ) where
   from-void : tokensFrom t k void at ≡ []
@@ -53,22 +57,26 @@ module _ (t : List ℕ) (k : ℕ) (z : tagAt t k ≡ 0) (at : ℕ) where
   from-byte y = untagged (tagAt t k) at 1 [] z
 
   from-left : (c : ℕ) (v : Val) → c ≡ aAt t k → tokensFrom t k (left v) at ≡ tokensFrom t c v at
-  from-left c v e = rw e (untagged (tagAt t k) at (length (flat v)) (tokensFrom t (aAt t k) v at) z)
+  from-left c v e = rw e (untagged (tagAt t k) at (length (flat v)) (placedParts t (aAt t k) v at) z)
 
   from-right : (c : ℕ) (v : Val) → c ≡ bAt t k → tokensFrom t k (right v) at ≡ tokensFrom t c v at
-  from-right c v e = rw e (untagged (tagAt t k) at (length (flat v)) (tokensFrom t (bAt t k) v at) z)
+  from-right c v e = rw e (untagged (tagAt t k) at (length (flat v)) (placedParts t (bAt t k) v at) z)
 
   from-pair :
       (c d : ℕ) (v w : Val) → c ≡ aAt t k → d ≡ bAt t k
       → tokensFrom t k (pair v w) at ≡ tokensFrom t c v at ++ tokensFrom t d w (at + length (flat v))
   from-pair c d v w e f =
-      rw (e, f)
-      (untagged (tagAt t k) at (length (flat v ++ flat w)) (tokensFrom t (aAt t k) v at ++ tokensFrom t (bAt t k) w (at + length (flat v))) z)
+      let xs : List Token = placedParts t (aAt t k) v at in
+      let ys : List Token = placedParts t (bAt t k) w (at + length (flat v)) in
+      rw (e, f) (untagged (tagAt t k) at (length (flat v ++ flat w)) (xs ++ ys) z ∙ filter-append hasSize xs ys)
 
-below-items : (t : List ℕ) (k c : ℕ) → c ≡ aAt t k → {e : Exp} {v : Val} → Reads (star e) v → (at : ℕ) → tokensBelow t k v at ≡ itemTokens t c v at
+below-items :
+    (t : List ℕ) (k c : ℕ) → c ≡ aAt t k → {e : Exp} {v : Val} → Reads (star e) v → (at : ℕ)
+    → filter hasSize (placedBelow t k v at) ≡ itemTokens t c v at
 below-items t k c f reads-none at = refl
 below-items t k c f (reads-more {v = v} {w = w} p n q) at =
-    ap (λ (xs : List Token). tokensFrom t (aAt t k) v at ++ xs) (below-items t k c f q (at + length (flat v)))
+    filter-append hasSize (placedParts t (aAt t k) v at) (placedBelow t k w (at + length (flat v)))
+    ∙ ap (λ (xs : List Token). tokensFrom t (aAt t k) v at ++ xs) (below-items t k c f q (at + length (flat v)))
     ∙ ap (λ (i : ℕ). tokensFrom t i v at ++ itemTokens t c w (at + length (flat v))) (sym f)
 
 -- bounds and results by equal lengths and token lists
@@ -292,7 +300,7 @@ module _ (t : List ℕ) (k : ℕ) (z : tagAt t k ≡ 0) (bs : List ℕ) (at offs
           all x,
           refl,
           refl,
-          untagged (tagAt t k) offset (length (flat (x .value))) (tokensBelow t k (x .value) offset) z
+          untagged (tagAt t k) offset (length (flat (x .value))) (placedBelow t k (x .value) offset) z
               ∙ below-items t k c (w .3) (items-reads t c n bs (at + 2) (all x)) offset,
         ) in (
           record {
@@ -337,7 +345,7 @@ walked t q k l e f bs at offset to writing old p n {s} {u} g h =
     (walked-shaped t k (sym e ∙ f) bs at offset to writing old p u
     (subst (Shaped t k bs at) (sym g ∙ h) (shaped t q k l bs at)))
 
--- a part whose record is tagged: it fits, and one token is put for it
+-- a part whose record is tagged: it fits, and one token is put for it, or none if it is empty
 pub part-fits :
     (t : List ℕ) (k : ℕ) (bs : List ℕ) (at offset to : ℕ) (writing : Bool) (space : ℕ) → Part t k bs at offset to writing space
     → isFound (fitAt t k bs at) ≡ true
@@ -349,34 +357,52 @@ module _ (t : List ℕ) (k : ℕ) {tag : ℕ} (e : tag ≡ tagAt t k) (f : ¬ (t
     span-of : (x : Fitted t k bs at) → spanWith bs (x .value) (x .rest) ≡ s
     span-of x = let g : Found (spanWith bs (x .value) (x .rest)) ≡ Found s = sym (fitted-found t k bs at x) ∙ h in cc
 
-    one-token : (x : Fitted t k bs at) → tokensFrom t k (x .value) offset ≡ record { tag = tag; offset = offset; size = s .size } ∷ []
-    one-token x =
-        ap (λ (i : ℕ). outermost i offset (length (flat (x .value))) (tokensBelow t k (x .value) offset)) (sym e)
-        ∙ tagged tag offset (length (flat (x .value))) (tokensBelow t k (x .value) offset) f
-        ∙ ap (λ (y : Span). alone (record { tag = tag; offset = offset; size = y .size })) (span-of x)
-
     size-of : (x : Fitted t k bs at) → length (flat (x .value)) ≡ s .size
     size-of x = ap (λ (y : Span). y .size) (span-of x)
+
+    -- a part of n bytes
+    tokens-of : (x : Fitted t k bs at) (n : ℕ) → s .size ≡ n → tokensFrom t k (x .value) offset ≡ filter hasSize (record { tag = tag; offset = offset; size = n } ∷ [])
+    tokens-of x n l =
+        ap (λ (i : ℕ). filter hasSize (outermost i offset (length (flat (x .value))) (placedBelow t k (x .value) offset))) (sym e)
+        ∙ tagged tag offset (length (flat (x .value))) (placedBelow t k (x .value) offset) f
+        ∙ ap (λ (i : ℕ). filter hasSize (record { tag = tag; offset = offset; size = i } ∷ [])) (size-of x ∙ l)
+
+    listed-with :
+        (xs : List Token) (new : List ℕ) (r : Listing) → ((x : Fitted t k bs at) → tokensFrom t k (x .value) offset ≡ xs)
+        → r .next .at ≡ s .next .at → r .size ≡ s .size → r .at ≡ to + 3 * length xs → new ≡ wrote writing old to (tokenBytes xs)
+        → ListsPart t k bs at offset to writing old new r
+    listed-with xs new r g a b c d x =
+        record {
+          ends = a ∙ sym (ap (λ (y : Span). y .next .at) (span-of x));
+          spells = b ∙ sym (size-of x);
+          moved = c ∙ ap (λ (ys : List Token). to + 3 * length ys) (sym (g x));
+          holds = d ∙ ap (λ (ys : List Token). wrote writing old to (tokenBytes ys)) (sym (g x));
+        }
+
+    -- an empty part is left out: the walk goes on behind it, at the same offset and the same index
+    pub left-out :
+        s .size ≡ 0 → (r : Listing) → r .next .at ≡ s .next .at → r .size ≡ 0 → r .at ≡ to → ListsPart t k bs at offset to writing old old r
+    left-out l r a b c = listed-with [] old r (λ x. tokens-of x 0 l) a (b ∙ sym l) (omega arith) (sym (wrote-none writing old to))
 
     pub token-bytes : (offset < 256) × (s .size < 256)
     token-bytes = (omega (arith, p .bounds .near), omega (arith, p .bounds .near, size-of (p .fitted)))
 
-    pub token-low : to + 3 ≤ 1000000
-    token-low = omega (arith, p .bounds .low, ap length (one-token (p .fitted)))
+    -- any other part is written
+    module _ (l : 0 < s .size) where
+      one-token : (x : Fitted t k bs at) → tokensFrom t k (x .value) offset ≡ record { tag = tag; offset = offset; size = s .size } ∷ []
+      one-token x = tokens-of x (s .size) refl ∙ sized tag offset (s .size) l
 
-    pub token-room : writing ≡ true → to + 3 ≤ length old
-    token-room w = omega (arith, p .bounds .room w, ap length (one-token (p .fitted)))
+      pub token-low : to + 3 ≤ 765
+      token-low = omega (arith, p .bounds .low, ap length (one-token (p .fitted)))
 
-    pub token-listed :
-        (new : List ℕ) (behind : ℕ) → behind ≡ to + 3 → new ≡ wrote writing old to (tag ∷ offset ∷ s .size ∷ [])
-        → ListsPart t k bs at offset to writing old new (record { next = s .next; size = s .size; at = behind })
-    token-listed new behind g m x =
-        record {
-          ends = sym (ap (λ (y : Span). y .next .at) (span-of x));
-          spells = sym (size-of x);
-          moved = g ∙ ap (λ (xs : List Token). to + 3 * length xs) (sym (one-token x));
-          holds = m ∙ ap (λ (xs : List Token). wrote writing old to (tokenBytes xs)) (sym (one-token x));
-        }
+      pub token-room : writing ≡ true → to + 3 ≤ length old
+      token-room w = omega (arith, p .bounds .room w, ap length (one-token (p .fitted)))
+
+      pub token-listed :
+          (new : List ℕ) (r : Listing) → r .next .at ≡ s .next .at → r .size ≡ s .size → r .at ≡ to + 3
+          → new ≡ wrote writing old to (tag ∷ offset ∷ s .size ∷ [])
+          → ListsPart t k bs at offset to writing old new r
+      token-listed new r = listed-with (record { tag = tag; offset = offset; size = s .size } ∷ []) new r one-token
 
 -- a walk over n iterations of record c from a place: so many are left at the place that it has come to, with the bytes spelled and the
 -- tokens listed before

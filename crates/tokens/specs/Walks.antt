@@ -24,7 +24,7 @@ itemTokens t c (more v w) from = tokensFrom t c v from ++ itemTokens t c w (from
 -- a part's place in the line and its tokens' places in the buffer: below 256, and inside a buffer of so many bytes where they are written
 pub record Room (writing : Bool) (space : ℕ) (v : Val) (offset : ℕ) (xs : List Token) (to : ℕ) : Type 0 where
   pub near : offset + length (flat v) ≤ 255
-  pub low : to + 3 * length xs ≤ 1000000
+  pub low : to + 3 * length xs ≤ 765
   pub room : writing ≡ true → to + 3 * length xs ≤ space
 
 -- a part by record k, and n iterations by record c

@@ -27,7 +27,7 @@ pub struct Listing {
 // One token at an index of the buffer, stored if writing, and the index behind it.
 fn put(out: &mut [u8], at: usize, tag: u8, offset: usize, size: usize, writing: bool) -> usize
     requires bytes { ⌜ (offset < 256) × (size < 256) ⌝ }
-    requires low { ⌜ at + 3 ≤ 1000000 ⌝ }
+    requires low { ⌜ at + 3 ≤ 765 ⌝ }
     requires room { ⌜ (writing ≡ true → at + 3 ≤ length (now out)) ⌝ }
     ensures index { λ r. ⌜ r ≡ at + 3 ⌝ }
     ensures buffer { λ _. ⌜ now (out .exit) ≡ wrote writing (now (out .entry)) at (tag ∷ offset ∷ size ∷ []) ⌝ }
@@ -40,8 +40,8 @@ fn put(out: &mut [u8], at: usize, tag: u8, offset: usize, size: usize, writing: 
     at + 3
 }
 
-// The tokens of the part at a place, by record k, whose bytes start at an offset of the line: the part alone if the record is tagged,
-// otherwise those of its children.
+// The tokens of the part at a place, by record k, whose bytes start at an offset of the line: the part alone if the record is tagged, or
+// none if that part is empty; otherwise those of its children.
 fn list_element(
     table: &[u8],
     k: usize,
@@ -61,11 +61,18 @@ fn list_element(
     let tag = table::tag_at(table, k);
     if tag != 0 {
         let part = reading::part_length(table, k, reading, place);
-        let end = part.next;
+        let past = part.next;
         let length = part.size;
+        if length == 0 {
+            return Listing {
+                next: past,
+                size: 0,
+                at,
+            };
+        }
         let behind = put(out, at, tag, offset, length, writing);
         return Listing {
-            next: end,
+            next: past,
             size: length,
             at: behind,
         };

@@ -2,7 +2,6 @@
 -- Assumes nothing.
 use Prim.Native.Nat.{ℕ}
 use mathlib.Core.Path.{_≡_, refl, sym, _∙_, ap}
-use mathlib.Core.Bool.{Bool, true, false, not}
 use mathlib.Core.List.{List}
 use native.Mathlib.Omega.{arith}
 use lib.Dec.{ltb}
@@ -13,9 +12,9 @@ use Rattle.regex.proofs.Parse.{parse-sound}
 use Rattle.table.specs.Records.{count}
 use Rattle.table.specs.Expression.{expOf}
 use Rattle.table.specs.Answers.{Said, gives, refuses}
-use Rattle.table.specs.Checked.{orElse, checked}
 use Rattle.reading.specs.Codec.{encode}
-use Rattle.reading.specs.Calls.{ifPassed, ifRoom, after, spellSays, spellLeaves}
+use Rattle.reading.specs.Calls.{ifRoom, after, spellSays, spellLeaves}
+use Rattle.reading.proofs.Admission.{or-gives, start-gives}
 use Rattle.tokens.specs.Listed.{tokensSays, tokensLeaves}
 use Rattle.matcher.specs.Calls.{workSize, readParsed, readSays, readLeaves, PosixWritten}
 
@@ -35,15 +34,6 @@ pub read-refused : (t : List ℕ) (k : ℕ) (s : List ℕ) (work : ℕ) (out : L
 unfolding readLeaves
 read-refused t k s work out n d e = after-refusal (readSays t k s work (length out)) n d _ out e
 
--- what comes behind a test that is not true, where the whole gives a result
-gives-or : (b : Bool) (n d : ℕ) (said : Said) (m : ℕ) → orElse b (refuses n d) said ≡ gives m → said ≡ gives m
-gives-or true n d said m e = let z : _≡_ {A = ℕ} 0 1 = cc in absurd (omega arith)
-gives-or false n d said m e = e
-
-gives-passed : (x said : Said) (m : ℕ) → ifPassed x said ≡ gives m → said ≡ gives m
-gives-passed (gives c) said m e = e
-gives-passed (refuses n d) said m e = let z : _≡_ {A = ℕ} 0 1 = cc in absurd (omega arith)
-
 -- where Read gives a result, it wrote the reading that the relation gives the line
 pub read-writes : (t : List ℕ) (k : ℕ) (s : List ℕ) (work : ℕ) (out : List ℕ) (n : ℕ) → readSays t k s work (length out) ≡ gives n → PosixWritten t k s out (readLeaves t k s work out) n
 unfolding readSays readLeaves
@@ -51,8 +41,8 @@ read-writes t k s work out n e = go (parse (expOf t k) s) refl
   where
     read : readParsed (parse (expOf t k) s) (length out) ≡ gives n
     read =
-        gives-or (ltb work (workSize (count t) (length s))) 10 0 _ n
-        (gives-or (ltb 255 (length s)) 7 0 _ n (gives-or (not (ltb k (count t))) 9 0 _ n (gives-passed (checked t) _ n e)))
+        or-gives (ltb work (workSize (count t) (length s))) 10 0 _ n
+        (or-gives (ltb 255 (length s)) 7 0 _ n (sym (start-gives t k _ n e .said-on _) ∙ e) .1) .1
 
     go : (x : Parsed) → parse (expOf t k) s ≡ x → PosixWritten t k s out (readLeaves t k s work out) n
     go missing f =
@@ -61,5 +51,5 @@ read-writes t k s work out n e = go (parse (expOf t k) s) refl
         absurd (omega arith)
     go (found v) f =
         let z : ifRoom (length out) (encode v) (records v) ≡ gives n = sym (ap (λ (y : Parsed). readParsed y (length out)) f) ∙ read in
-        let y : gives (records v) ≡ gives n = gives-or (ltb (length out) (length (encode v))) 11 (length (encode v)) _ n z in
+        let y : gives (records v) ≡ gives n = or-gives (ltb (length out) (length (encode v))) 11 (length (encode v)) _ n z .1 in
         record { value = v; posix = parse-sound (expOf t k) s v f; counted = cc; written = rw (e, f) }

@@ -1,22 +1,22 @@
--- Every answer fits the 64-bit number that a C caller is given: results and details are below 2^32.
+-- Every answer fits the 64-bit number that a C caller is given: results and details are below 2^32. And the buffers with which Tokens gives no 11.
 -- Assumes nothing.
-use Prim.Native.Nat.{ℕ, zero, suc, _+_, _*_, _≤_, _<_, _%_, max}
-use mathlib.Core.Path.{_≡_, refl, sym, _∙_, ap, subst}
-use mathlib.Core.Bool.{Bool, true, false, not, _||_, false≢true}
-use mathlib.Core.List.{List, [], _∷_, _++_}
-use mathlib.Core.Logic.{_⊎_, inl, inr, ⊎-elim}
+use Prim.Native.Nat.{ℕ, _*_, _≤_, _<_, _%_, max}
+use mathlib.Core.Path.{_≡_, refl, sym, _∙_, subst}
+use mathlib.Core.Bool.{Bool, false, not, _||_}
+use mathlib.Core.List.{List}
 use native.Mathlib.Omega.{arith}
-use borrow.Author.Tests.{ltb-true, ltb-false, not-false}
+use native.Mathlib.Nat.{mul-le-mul}
+use borrow.Author.Tests.{ltb-false}
 use lib.Dec.{ltb, eqb}
-use lib.ListN.{length, length-append}
-use Rattle.regex.specs.Values.{Val, void, byte, left, right, pair, none, more, flat, records, Reads}
+use lib.ListN.{length}
+use Rattle.regex.specs.Values.{Val, flat, records, Reads}
 use Rattle.regex.specs.Decision.{Parsed, found, missing, parse}
 use Rattle.regex.specs.Ranking.{Verdict, same, first, second, rank}
 use Rattle.regex.specs.Relation.{Posix}
 use Rattle.regex.proofs.Parse.{parse-sound}
 use Rattle.regex.proofs.Flats.{posix-flat, posix-reads}
 use Rattle.table.specs.Records.{count}
-use Rattle.table.specs.Faults.{Passes, badSize, fault}
+use Rattle.table.specs.Faults.{Passes, badSize}
 use Rattle.table.specs.Expression.{expOf}
 use Rattle.table.specs.Answers.{Said, gives, refuses}
 use Rattle.trace.specs.Numbers.{Small}
@@ -24,20 +24,20 @@ use Rattle.table.specs.Checked.{orElse, checked, RefusedFor, of-size, of-record
 use Rattle.table.proofs.Checking.{check-gives, check-refuses}
 use Rattle.table.proofs.Passing.{count-bound, or-false-left, or-false-right}
 use Rattle.reading.specs.Codec.{encode}
-use Rattle.reading.specs.Fitting.{readingOf}
-use Rattle.reading.specs.Calls.{ifPassed, ifStart, ifRoom, ifFits, spellSays}
+use Rattle.reading.specs.Fitting.{Fits, readingOf}
+use Rattle.reading.specs.Calls.{ifStart, ifRoom, ifFits, spellSays}
 use Rattle.reading.proofs.Lengths.{encode-length}
-use Rattle.reading.proofs.Fitting.{reading-sound}
+use Rattle.reading.proofs.Fitting.{fits-found}
+use Rattle.reading.proofs.Sizes.{records-reads}
+use Rattle.reading.proofs.Saying.{said-or, said-start, table-number, NotBuffer, not-buffer, start-not-buffer, room-not-buffer}
 use Rattle.tokens.specs.Tokens.{tokensFrom, tokenBytes}
 use Rattle.tokens.specs.Listed.{tokensSays}
-use Rattle.tokens.proofs.Counts.{bytes-count, tokens-count, few-records}
+use Rattle.tokens.proofs.Counts.{bytes-count, tokens-count}
 use Rattle.ranking.specs.Answers.{verdictNumber, sameLine, compareParsed, compareSays}
 use Rattle.matcher.specs.Calls.{workSize, readParsed, readSays}
 
--- either of two
 small-or : (b : Bool) (x y : Said) → Small x → (b ≡ false → Small y) → Small (orElse b x y)
-small-or true x y h g = h
-small-or false x y h g = g refl
+small-or = said-or Small
 
 -- a table of the right size has few records
 short-table : (t : List ℕ) → badSize t ≡ false → count t ≤ 255
@@ -47,24 +47,11 @@ short-table t e =
     let c : length t ≤ 1020 = ltb-false 1020 (length t) b in
     omega arith
 
--- a fault's number is one of 2 to 6
-fault-number : (n : ℕ) (t : List ℕ) (k : ℕ) → fault n t k ≡ true → (2 ≤ n) × (n ≤ 6)
-fault-number zero t k e = absurd (false≢true e)
-fault-number (suc zero) t k e = absurd (false≢true e)
-fault-number (suc (suc zero)) t k e = (omega arith, omega arith)
-fault-number (suc (suc (suc zero))) t k e = (omega arith, omega arith)
-fault-number (suc (suc (suc (suc zero)))) t k e = (omega arith, omega arith)
-fault-number (suc (suc (suc (suc (suc zero))))) t k e = (omega arith, omega arith)
-fault-number (suc (suc (suc (suc (suc (suc zero)))))) t k e = (omega arith, omega arith)
-fault-number (suc (suc (suc (suc (suc (suc (suc n))))))) t k e = absurd (false≢true e)
-
 refused-small : (t : List ℕ) (n d : ℕ) → RefusedFor t n d → Small (refuses n d)
 refused-small t n d (of-size p q b) = (omega arith, omega arith, omega arith)
-refused-small t n d (of-record f) = (
-  omega (arith, fault-number n t d (f .found)),
-  omega (arith, fault-number n t d (f .found)),
-  omega (arith, f .inside, short-table t (f .size-right)),
-)
+refused-small t n d (of-record f) =
+    let x : (1 ≤ n) × (n ≤ 6) = table-number t n d (of-record f) in
+    (x .0, omega arith, omega (arith, f .inside, short-table t (f .size-right)))
 
 -- Check's answer
 pub small-checked : (t : List ℕ) → Small (checked t)
@@ -78,13 +65,7 @@ small-checked t = go (checked t) refl
 
 -- the answers of the calls that take a start number
 pub small-start : (t : List ℕ) (k : ℕ) (said : Said) → (Passes t → k < count t → Small said) → Small (ifStart t k said)
-small-start t k said h = go (checked t) refl
-  where
-    go : (c : Said) → checked t ≡ c → Small (ifPassed c (orElse (not (ltb k (count t))) (refuses 9 0) said))
-    go (gives m) e =
-        small-or (not (ltb k (count t))) (refuses 9 0) said (omega arith, omega arith, omega arith)
-        (λ f. h (check-gives t m e .0) (ltb-true k (count t) (not-false (ltb k (count t)) f)))
-    go (refuses n d) e = refused-small t n d (check-refuses t n d e)
+small-start t k said h = said-start Small t k said (refused-small t) (omega arith, omega arith, omega arith) h
 
 small-room : (room : ℕ) (bytes : List ℕ) (n : ℕ) → length bytes < 4294967296 → n < 4294967296 → Small (ifRoom room bytes n)
 small-room room bytes n h g = small-or (ltb room (length bytes)) (refuses 11 (length bytes)) (gives n) (omega arith, omega arith, h) (λ _. g)
@@ -122,18 +103,46 @@ small-compare t k bs cs = small-start t k _ (λ p l. go (readingOf t k bs) (read
 -- Tokens'
 pub small-tokens : (t : List ℕ) (k : ℕ) (bs : List ℕ) (room : ℕ) → Small (tokensSays t k bs room)
 unfolding tokensSays
-small-tokens t k bs room = small-start t k _ (λ p l. go p l (readingOf t k bs) refl)
+small-tokens t k bs room = small-start t k _ (λ p l. go (readingOf t k bs))
   where
-    go :
-        Passes t → k < count t → (x : Parsed) → readingOf t k bs ≡ x
-        → Small (ifFits x (λ v. ifRoom room (tokenBytes (tokensFrom t k v 0)) (length (tokensFrom t k v 0))))
-    go p l missing e = (omega arith, omega arith, omega arith)
-    go p l (found v) e =
+    go : (x : Parsed) → Small (ifFits x (λ v. ifRoom room (tokenBytes (tokensFrom t k v 0)) (length (tokensFrom t k v 0))))
+    go missing = (omega arith, omega arith, omega arith)
+    go (found v) =
         small-or (ltb 255 (length (flat v))) (refuses 13 0) _ (omega arith, omega arith, omega arith)
         (λ f. let h : length (flat v) ≤ 255 = ltb-false 255 (length (flat v)) f in
-        let n : length (tokensFrom t k v 0) ≤ 65025 =
-        omega (arith, tokens-count t k v 0, few-records t k v p l (reading-sound t k bs v e .0) h) in
-        small-room room (tokenBytes (tokensFrom t k v 0)) (length (tokensFrom t k v 0)) (omega (arith, bytes-count (tokensFrom t k v 0))) (omega arith))
+        small-room room (tokenBytes (tokensFrom t k v 0)) (length (tokensFrom t k v 0))
+        (omega (arith, bytes-count (tokensFrom t k v 0), tokens-count t k v 0))
+        (omega (arith, tokens-count t k v 0)))
+
+-- Tokens gives no 11 where the buffer has 3 bytes for each byte of the line
+roomy :
+    (t : List ℕ) (k : ℕ) (bs : List ℕ) (room : ℕ)
+    → ((v : Val) → readingOf t k bs ≡ found v → length (flat v) ≤ 255 → 3 * length (flat v) ≤ room)
+    → NotBuffer (tokensSays t k bs room)
+unfolding tokensSays
+roomy t k bs room enough = start-not-buffer t k _ (λ p l. go (readingOf t k bs) refl)
+  where
+    go : (x : Parsed) → readingOf t k bs ≡ x → NotBuffer (ifFits x (λ v. ifRoom room (tokenBytes (tokensFrom t k v 0)) (length (tokensFrom t k v 0))))
+    go missing e = not-buffer 12 0 (omega arith)
+    go (found v) e =
+        said-or NotBuffer (ltb 255 (length (flat v))) (refuses 13 0) _ (not-buffer 13 0 (omega arith))
+        (λ f. room-not-buffer room (tokenBytes (tokensFrom t k v 0)) (length (tokensFrom t k v 0))
+        (omega (arith, bytes-count (tokensFrom t k v 0), tokens-count t k v 0, enough v e (ltb-false 255 (length (flat v)) f))))
+
+pub room-for-line : (t : List ℕ) (k : ℕ) (bs : List ℕ) (room : ℕ) (f : Fits t k bs) → 3 * length (flat (f .value)) ≤ room → NotBuffer (tokensSays t k bs room)
+room-for-line t k bs room f h =
+    roomy t k bs room (λ v e short. let g : found v ≡ found (f .value) = sym e ∙ fits-found f in let n : v ≡ f .value = cc in rw n h)
+
+pub room-for-all : (t : List ℕ) (k : ℕ) (bs : List ℕ) (room : ℕ) → 765 ≤ room → NotBuffer (tokensSays t k bs room)
+room-for-all t k bs room h = roomy t k bs room (λ v e short. omega arith)
+
+-- a reading that spells at most 255 bytes has at most 255 * 255 records
+few-records : (t : List ℕ) (k : ℕ) (v : Val) → Passes t → k < count t → Reads (expOf t k) v → length (flat v) ≤ 255 → records v ≤ 65025
+few-records t k v p l r h =
+    let m : count t ≤ 255 = count-bound t p .1 in
+    let x : max (length (flat v)) 1 ≤ 255 = omega arith in
+    let y : count t * max (length (flat v)) 1 ≤ 255 * 255 = mul-le-mul m x in
+    omega (arith, records-reads t p k l r)
 
 -- Read's
 pub small-read : (t : List ℕ) (k : ℕ) (s : List ℕ) (work room : ℕ) → Small (readSays t k s work room)

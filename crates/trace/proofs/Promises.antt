@@ -25,8 +25,9 @@ use Rattle.reading.specs.Fitting.{Fits}
 use Rattle.reading.specs.Calls.{spellSays, spellLeaves}
 use Rattle.reading.proofs.Spelling.{spell-writes}
 use Rattle.reading.proofs.Misfits.{spell-misfits}
-use Rattle.tokens.specs.Tokens.{tokensFrom, tokenBytes, taggedParts, textAt, textOf}
+use Rattle.tokens.specs.Tokens.{filter, tokensFrom, tokenBytes, taggedParts, hasBytes, textAt, textOf}
 use Rattle.tokens.specs.Listed.{tokensSays, tokensLeaves}
+use Rattle.tokens.proofs.Counts.{tokens-count}
 use Rattle.tokens.proofs.Text.{tokens-text}
 use Rattle.tokens.proofs.Calls.{tokens-writes, tokens-misfits}
 use Rattle.ranking.specs.Answers.{compareSays}
@@ -39,7 +40,7 @@ use Rattle.matcher.proofs.Rivals.{read-outranks}
 use Rattle.trace.specs.Numbers.{Small}
 use Rattle.trace.specs.SameCalls.{SameCalls}
 use Rattle.trace.proofs.Answers.{read-writes, read-refused, spell-refused, tokens-refused}
-use Rattle.trace.proofs.Bounds.{small-checked, small-read, small-spell, small-compare, small-tokens}
+use Rattle.trace.proofs.Bounds.{small-checked, small-read, small-spell, small-compare, small-tokens, room-for-line, room-for-all}
 use Rattle.trace.proofs.Numbers.{same-number}
 use Rattle.trace.proofs.UpTo.{up-to-same, up-to-less}
 
@@ -85,7 +86,7 @@ pub spell-right :
     × (spellLeaves t k bs out ≡ flat (f .value) ++ drop (length (flat (f .value))) out)
 spell-right = spell-writes
 
--- Demand 2: and Tokens just its outermost tagged parts
+-- Demand 2: and Tokens just its outermost tagged parts of at least one byte
 pub tokens-right :
     (t : List ℕ) (k : ℕ) (bs out : List ℕ) → Passes t → k < count t → (f : Fits t k bs) → length (flat (f .value)) ≤ 255
     → 3 * length (tokensFrom t k (f .value) 0) ≤ length out
@@ -94,9 +95,22 @@ pub tokens-right :
     ≡ tokenBytes (tokensFrom t k (f .value) 0) ++ drop (length (tokenBytes (tokensFrom t k (f .value) 0))) out)
 tokens-right = tokens-writes
 
--- Demand 2: the tokens' places in the line hold just what its outermost tagged parts spell, in order and with their tags
-pub tokens-placed : (t : List ℕ) (k : ℕ) (v : Val) → map (textAt (flat v)) (tokensFrom t k v 0) ≡ map textOf (taggedParts t k v)
+-- Demand 2: the tokens' places in the line hold just what its outermost tagged parts of at least one byte spell, in order and with their tags
+pub tokens-placed :
+    (t : List ℕ) (k : ℕ) (v : Val) → map (textAt (flat v)) (tokensFrom t k v 0) ≡ map textOf (filter hasBytes (taggedParts t k v))
 tokens-placed = tokens-text
+
+-- Request 2: at most one token for each byte of the line
+pub tokens-few : (t : List ℕ) (k : ℕ) (v : Val) (at : ℕ) → length (tokensFrom t k v at) ≤ length (flat v)
+tokens-few = tokens-count
+
+-- Request 2: so Tokens gives no 11 where the buffer has 3 bytes for each byte of the reading's line, and none where it has 765
+pub tokens-room :
+    (t : List ℕ) (k : ℕ) (bs : List ℕ) (room : ℕ) (f : Fits t k bs) → 3 * length (flat (f .value)) ≤ room → (d : ℕ) → ¬ (tokensSays t k bs room ≡ refuses 11 d)
+tokens-room = room-for-line
+
+pub tokens-room-always : (t : List ℕ) (k : ℕ) (bs : List ℕ) (room : ℕ) → 765 ≤ room → (d : ℕ) → ¬ (tokensSays t k bs room ≡ refuses 11 d)
+tokens-room-always = room-for-all
 
 -- Demand 2: Spell and Tokens give 12 exactly when the bytes do not fit the start record
 pub spell-unfit :

@@ -202,15 +202,41 @@ uint64_t trace_spell(const uint8_t *table, size_t table_len, uint64_t start, con
     return n;
 }
 
+/* Fault 38: the walk is inside an empty tagged part. */
+static int inside_empty;
+
+static int left_out(uint64_t n, int counting) {
+    switch (FAULT) {
+    case 35: return 0;
+    case 36: return n < 2;
+    case 38: return n == 0 && !inside_empty;
+    case 39: return n == 0 && !counting;
+    default: return n == 0;
+    }
+}
+
+static size_t inside(tab t, size_t k, const uint8_t *v, size_t len, size_t at, uint64_t *off, uint8_t *out, size_t *cnt);
+
 static size_t tokens(tab t, size_t k, const uint8_t *v, size_t len, size_t at, uint64_t *off, uint8_t *out, size_t *cnt) {
-    size_t a = fa(t, k), b = fb(t, k);
     if (tag(t, k)) {
         uint64_t n = 0;
         size_t after = element(t, k, v, len, at, &n);
-        if (out) { out[*cnt] = tag(t, k); out[*cnt + 1] = (uint8_t)*off; out[*cnt + 2] = (uint8_t)n; }
-        *cnt += 3;
+        if (!left_out(n, !out)) {
+            if (out) { out[*cnt] = tag(t, k); out[*cnt + 1] = (uint8_t)*off; out[*cnt + 2] = (uint8_t)n; }
+            *cnt += 3;
+        } else if (FAULT == 38) {
+            inside_empty = 1;
+            inside(t, k, v, len, at, off, out, cnt);
+            inside_empty = 0;
+        }
+        if (FAULT == 37 && n == 0) ++*off;
         if (FAULT != 21) { *off += n; return after; }
     }
+    return inside(t, k, v, len, at, off, out, cnt);
+}
+
+static size_t inside(tab t, size_t k, const uint8_t *v, size_t len, size_t at, uint64_t *off, uint8_t *out, size_t *cnt) {
+    size_t a = fa(t, k), b = fb(t, k);
     uint8_t d = v[at], x = v[at + 1];
     at += 2;
     switch (kind(t, k)) {

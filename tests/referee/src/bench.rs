@@ -1,5 +1,6 @@
 //! The lines on the bench of document 01: tables T1 to T4, cases A to J and
-//! the edges. And lines for Other, request 1 of document 02.
+//! the edges. And lines for Other and for empty tagged parts, requests 1 and 2
+//! of document 02.
 
 pub const T1: &[u8] = &[
     2, 0x61, 0x61, 1, 2, 0x61, 0x61, 0, 2, 0x62, 0x62, 0, 4, 1, 2, 2, 2, 0x62, 0x62, 0, 2, 0x63,
@@ -18,6 +19,16 @@ const REMARK: &[u8] = &[6, 0x3b, 0x3b, 0, 5, 0, 0, 1, 2, 0x3b, 0x3b, 0, 4, 1, 2,
 const NO_BYTE: &[u8] = &[6, 0, 255, 0];
 const NOT_5: &[u8] = &[6, 5, 5, 0];
 const NO_DIGIT: &[u8] = &[6, 0x30, 0x39, 0];
+
+/// a, Empty and b, tagged 1, 2 and 3, and the reading of ab.
+const BETWEEN: &[u8] = &[2, 0x61, 0x61, 1, 1, 0, 0, 2, 2, 0x62, 0x62, 3, 4, 1, 2, 0, 4, 0, 3, 0];
+const BETWEEN_READING: &[u8] = &[4, 0, 1, 0x61, 4, 0, 0, 0, 1, 0x62];
+/// Two Empties, tagged 1 and 2, in a Seq, tagged 3.
+const EMPTIES: &[u8] = &[1, 0, 0, 1, 1, 0, 0, 2, 4, 0, 1, 3];
+/// g or Empty, tagged 1, in front of a, tagged 2.
+const OPTIONAL: &[u8] = &[2, 0x67, 0x67, 0, 1, 0, 0, 0, 3, 0, 1, 1, 2, 0x61, 0x61, 2, 4, 2, 3, 0];
+/// a*, tagged 1, in front of b, tagged 2.
+const STAR_FIRST: &[u8] = &[2, 0x61, 0x61, 0, 5, 0, 0, 1, 2, 0x62, 0x62, 2, 4, 1, 2, 0];
 
 /// The refusal of that number with detail 0.
 pub const fn refusal(number: u64) -> u64 {
@@ -135,7 +146,7 @@ pub fn stated() -> Vec<Stated> {
         spell("H", T3, &[5, 1, 0, 0], None),
         read("I", T3, b"", &[5, 0]),
         read("J", T4, b"", &[0, 0]),
-        tokens("J", T4, &[0, 0], &[7, 0, 0]),
+        tokens("J", T4, &[0, 0], &[]),
         tokens("program, abc", T1, &c, &[1, 0, 1, 3, 1, 2]),
         tokens("program, empty", T1, &[5, 0], &[]),
         check("T1", T1.to_vec(), 10),
@@ -153,6 +164,7 @@ pub fn stated() -> Vec<Stated> {
         spell("remark", REMARK, &remark, Some(b"ab;")),
         tokens("remark", REMARK, &remark, &[1, 0, 2]),
         read("remark, empty", REMARK, b";", &[4, 0, 5, 0, 1, 0x3b]),
+        tokens("remark, empty", REMARK, &[4, 0, 5, 0, 1, 0x3b], &[]),
         read("remark, a semicolon inside", REMARK, b"a;b;", &[]),
         read("remark, no semicolon", REMARK, b"ab", &[]),
         spell("remark, a semicolon inside", REMARK, &[4, 0, 5, 1, 1, 0x3b, 1, 0x3b], None),
@@ -174,6 +186,18 @@ pub fn stated() -> Vec<Stated> {
         read("Other above its highest", NO_DIGIT, &[0x3a], &[1, 0x3a]),
         check("Other with a above b", vec![1, 0, 0, 0, 6, 5, 4, 0], refusal(4) + 1),
         check("kind 7", vec![1, 0, 0, 0, 7, 0, 0, 0], refusal(2) + 1),
+        read("empty between two bytes", BETWEEN, b"ab", BETWEEN_READING),
+        tokens("empty between two bytes", BETWEEN, BETWEEN_READING, &[1, 0, 1, 3, 1, 1]),
+        read("empty with tags inside", EMPTIES, b"", &[4, 0, 0, 0, 0, 0]),
+        tokens("empty with tags inside", EMPTIES, &[4, 0, 0, 0, 0, 0], &[]),
+        read("optional, absent", OPTIONAL, b"a", &[4, 0, 3, 0, 0, 0, 1, 0x61]),
+        tokens("optional, absent", OPTIONAL, &[4, 0, 3, 0, 0, 0, 1, 0x61], &[2, 0, 1]),
+        read("optional, there", OPTIONAL, b"ga", &[4, 0, 2, 0, 1, 0x67, 1, 0x61]),
+        tokens("optional, there", OPTIONAL, &[4, 0, 2, 0, 1, 0x67, 1, 0x61], &[1, 0, 1, 2, 1, 1]),
+        read("no iteration", STAR_FIRST, b"b", &[4, 0, 5, 0, 1, 0x62]),
+        tokens("no iteration", STAR_FIRST, &[4, 0, 5, 0, 1, 0x62], &[2, 0, 1]),
+        read("one iteration", STAR_FIRST, b"ab", &[4, 0, 5, 1, 1, 0x61, 1, 0x62]),
+        tokens("one iteration", STAR_FIRST, &[4, 0, 5, 1, 1, 0x61, 1, 0x62], &[1, 0, 1, 2, 1, 1]),
     ]
 }
 
@@ -228,6 +252,8 @@ mod tests {
         let reading = reader.reading(&check(T1).unwrap(), 9, b"abc").unwrap();
         assert_eq!(trace_spell(T1, 9, &reading, &mut out[..2]), (11 << 32) + 3);
         assert_eq!(trace_tokens(T1, 9, &reading, &mut out[..5]), (11 << 32) + 6);
+        let between = trace_tokens(BETWEEN, 4, BETWEEN_READING, &mut out[..5]);
+        assert_eq!(between, (11 << 32) + 6);
     }
 
     #[test]
@@ -325,16 +351,22 @@ mod tests {
         }
     }
 
+    /// A random table of up to so many records, its last record, and a value of
+    /// that record with room for so many bytes, if there is one.
+    fn drawn(rng: &mut Rng, most: usize, bytes: isize) -> Option<(Table, usize, Value)> {
+        let records = 1 + rng.below(most);
+        let t = table(rng, records);
+        let k = records - 1;
+        let v = Grower::new(&t).value(rng, k, &mut Room { bytes, eager: false })?;
+        Some((t, k, v))
+    }
+
     #[test]
     fn longer_lines_by_both_roads() {
         let mut rng = Rng::new(2);
         let mut carried = 0;
         for _ in 0..300 {
-            let records = 1 + rng.below(40);
-            let t = table(&mut rng, records);
-            let k = records - 1;
-            let mut room = Room { bytes: 60, eager: false };
-            let Some(v) = Grower::new(&t).value(&mut rng, k, &mut room) else { continue };
+            let Some((t, k, v)) = drawn(&mut rng, 40, 60) else { continue };
             let mut line = v.line();
             line.truncate(80);
             let Some(one) = posix::read(&t, k, &line, 60_000) else { continue };
@@ -353,11 +385,7 @@ mod tests {
         let mut rng = Rng::new(3);
         let mut fitted = 0;
         for _ in 0..20_000 {
-            let records = 1 + rng.below(8);
-            let t = table(&mut rng, records);
-            let k = records - 1;
-            let mut room = Room { bytes: 6, eager: false };
-            let Some(v) = Grower::new(&t).value(&mut rng, k, &mut room) else { continue };
+            let Some((t, k, v)) = drawn(&mut rng, 8, 6) else { continue };
             let damaged = damaged_reading(&mut rng, &v.reading());
             if let Some(w) = fit(&t, k, &damaged) {
                 fitted += 1;
@@ -389,11 +417,7 @@ mod tests {
         let mut rng = Rng::new(4);
         let (mut met, mut unfit, mut refused) = (0, 0, 0);
         for _ in 0..4000 {
-            let records = 1 + rng.below(12);
-            let t = table(&mut rng, records);
-            let k = records - 1;
-            let mut room = Room { bytes: 12, eager: false };
-            let Some(v) = Grower::new(&t).value(&mut rng, k, &mut room) else { continue };
+            let Some((t, k, v)) = drawn(&mut rng, 12, 12) else { continue };
             let none = without_others(&t, Kind::Nothing);
             let all = without_others(&t, Kind::Letter(Letter::range(0, 255)));
             met += u32::from(fit(&none, k, &v.reading()).is_none());
@@ -405,5 +429,39 @@ mod tests {
             refused += u32::from(reads(&all) && !reads(&t));
         }
         assert!(met > 1000 && unfit > 20 && refused > 50);
+    }
+
+    /// The outermost tagged ones of these parts and the parts inside them.
+    fn outermost<'a>(t: &Table, parts: Vec<(usize, &'a Value)>) -> Vec<(usize, &'a Value)> {
+        let mut tagged = Vec::new();
+        for (k, v) in parts {
+            if t.tag(k) != 0 {
+                tagged.push((k, v));
+            } else {
+                tagged.extend(outermost(t, v.parts(t.kind(k))));
+            }
+        }
+        tagged
+    }
+
+    /// Of the random readings enough have an empty outermost tagged part, one
+    /// beside a part of some bytes, and one with tagged parts inside it.
+    #[test]
+    fn empty_parts_are_met() {
+        let mut rng = Rng::new(5);
+        let (mut met, mut beside, mut around) = (0, 0, 0);
+        for _ in 0..4000 {
+            let Some((t, k, v)) = drawn(&mut rng, 12, 12) else { continue };
+            let parts = outermost(&t, vec![(k, &v)]).into_iter();
+            let (empty, full): (Vec<_>, Vec<_>) = parts.partition(|(_, v)| v.line().is_empty());
+            let holds_tags = |k, v: &Value| !outermost(&t, v.parts(t.kind(k))).is_empty();
+            met += u32::from(!empty.is_empty());
+            beside += u32::from(!empty.is_empty() && !full.is_empty());
+            around += u32::from(empty.iter().any(|&(k, v)| holds_tags(k, v)));
+            let mut out = vec![0; 3 * v.line().len()];
+            let listed = trace_tokens(&t.bytes(), k as u64, &v.reading(), &mut out);
+            assert_eq!(listed, full.len() as u64);
+        }
+        assert!(met > 200 && beside > 50 && around > 40);
     }
 }

@@ -173,34 +173,30 @@ fn compare(table: &[u8], start: u64, first: &[u8], second: &[u8]) -> Result<u64,
 fn tokens(table: &[u8], start: u64, reading: &[u8], out: &mut [u8]) -> Result<u64, Refusal> {
     let (table, k) = open(table, start)?;
     let value = fitting(&table, k, reading, 0)?;
-    short_line(&value, 0)?;
+    let line = short_line(&value, 0)?;
     let mut list = Vec::new();
     walk(&table, k, &value, &mut 0, &mut list);
+    // One token for each byte at most: 3 bytes for each are always enough.
+    assert!(list.len() <= 3 * line.len(), "the referee lists more tokens than bytes");
     put(&list, out)?;
     Ok(list.len() as u64 / 3)
 }
 
-/// Walks a value parent first; the offset moves on by the bytes passed.
+/// Walks a value parent first; the offset moves on by the bytes passed. A
+/// tagged part that spells no byte is left out with all that is inside it.
 fn walk(table: &Table, k: usize, value: &Value, offset: &mut usize, list: &mut Vec<u8>) {
-    use crate::table::Kind;
     let tag = table.tag(k);
     if tag != 0 {
         let length = value.line().len();
-        list.extend([tag, *offset as u8, length as u8]);
+        if length > 0 {
+            list.extend([tag, *offset as u8, length as u8]);
+        }
         *offset += length;
-        return;
-    }
-    match (table.kind(k), value) {
-        (Kind::Letter(_), Value::Byte(_)) => *offset += 1,
-        (Kind::Or(r1, _), Value::Left(v)) => walk(table, r1, v, offset, list),
-        (Kind::Or(_, r2), Value::Right(v)) => walk(table, r2, v, offset, list),
-        (Kind::Seq(r1, r2), Value::Seq(v1, v2)) => {
-            walk(table, r1, v1, offset, list);
-            walk(table, r2, v2, offset, list);
+    } else if let Value::Byte(_) = value {
+        *offset += 1;
+    } else {
+        for (r, part) in value.parts(table.kind(k)) {
+            walk(table, r, part, offset, list);
         }
-        (Kind::Star(r), Value::Stars(vs)) => {
-            vs.iter().for_each(|v| walk(table, r, v, offset, list))
-        }
-        _ => {}
     }
 }

@@ -7,7 +7,8 @@ use referee::random::{all_lines, all_tables, star_nest};
 use referee::rivals::rivals;
 use referee::table::{Letter, Table};
 
-/// Cases A to J, the edges and Other, against stated answers.
+/// Cases A to J, the edges, Other and empty tagged parts, against stated
+/// answers.
 pub fn bench(h: &mut Harness) {
     for case in stated() {
         h.from(format!("case {}", case.name));
@@ -139,6 +140,7 @@ fn all_rivals(h: &mut Harness, table: &Table, k: usize, line: &[u8]) {
             }
             let bytes = tagged.bytes();
             h.put(tokens(&bytes, start, &best), 24);
+            h.put(tokens(&bytes, start, &best), 3 * line.len());
             h.put(tokens(&bytes, start, all.last().expect("a rival")), 3);
         }
     }

@@ -1,5 +1,5 @@
-//! A second implementation of document 01, with ask 1 of document 02, written
-//! from their text.
+//! A second implementation of document 01, with asks 1 and 2 of document 02,
+//! written from their text.
 //!
 //! Read is done twice: by derivatives with injection (`posix`) and by the
 //! rules of the relation with an automaton for the languages (`relation`).

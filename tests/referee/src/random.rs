@@ -91,6 +91,8 @@ pub fn table(rng: &mut Rng, records: usize) -> Table {
     let (low, high) = alphabet(rng);
     let style = rng.below(6);
     let tag_in = rng.choose(&[1, 2, 4, 8, 30, 1_000_000]);
+    // A tag on a Seq hides the tagged parts that lie beside each other in it.
+    let seq_tags = rng.once_in(2);
     let mut pool: Vec<usize> = Vec::new();
     let mut list = Vec::new();
     for k in 0..records {
@@ -115,8 +117,9 @@ pub fn table(rng: &mut Rng, records: usize) -> Table {
         } else {
             leaf(rng, low, high)
         };
-        let tag =
-            if rng.once_in(tag_in) { rng.choose(&[1, 2, 7, 255, (k % 255) as u8 + 1]) } else { 0 };
+        let may_tag = seq_tags || !matches!(kind, Kind::Seq(..));
+        let tagged = may_tag && rng.once_in(tag_in);
+        let tag = if tagged { rng.choose(&[1, 2, 7, 255, (k % 255) as u8 + 1]) } else { 0 };
         list.push(Record { kind, tag });
         pool.push(k);
     }

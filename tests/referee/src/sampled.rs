@@ -198,13 +198,14 @@ fn reads(h: &mut Harness, rng: &mut Rng, table: &Table, k: usize, line: &[u8], s
 }
 
 /// Spell and Tokens of one reading with buffers at, around and far below the
-/// need.
+/// need, and Tokens with 3 bytes for each byte of the line.
 fn walks(h: &mut Harness, rng: &mut Rng, bytes: &[u8], start: u64, reading: &[u8]) {
     let (spelled, listed) = needs(bytes, start, reading);
     for out in [spelled, spelled.saturating_sub(1), spelled + 7, rng.below(spelled + 1), 0] {
         h.put(spell(bytes, start, reading), out);
     }
-    for out in [listed, listed.saturating_sub(1), listed + 7, rng.below(listed + 1), 0] {
+    let below = rng.below(listed + 1);
+    for out in [listed, listed.saturating_sub(1), listed + 7, below, 0, 3 * spelled] {
         h.put(tokens(bytes, start, reading), out);
     }
 }

@@ -55,6 +55,11 @@ fn spine(levels: usize, count: u8, last: bool) -> Vec<u8> {
     reading
 }
 
+/// The tokens of a line of 255 bytes, one for each byte.
+fn each_byte(tag: u8) -> Vec<u8> {
+    (0..255).flat_map(|i| [tag, i, 1]).collect()
+}
+
 /// Spell, Tokens and Compare of a reading that fits and spells a line.
 fn walks(h: &mut Harness, table: &[u8], reading: &[u8], line: &[u8], listed: &[u8]) {
     let start = table.len() as u64 / 4 - 1;
@@ -91,7 +96,7 @@ fn too_long(h: &mut Harness, table: &[u8], mut reading: Vec<u8>, good: &[u8]) {
 fn stars(h: &mut Harness) {
     let plain = star_nest(LETTERS[0], LEVELS + 1, 0).bytes();
     let tagged = star_nest(LETTERS[1], LEVELS + 1, 9).bytes();
-    let listed: Vec<u8> = (0..255).flat_map(|i| [9, i, 1]).collect();
+    let listed = each_byte(9);
     let line = [0x61; 255];
     let start = LEVELS as u64;
     h.from("Check of 254 Stars");
@@ -210,32 +215,45 @@ fn combs(h: &mut Harness) {
     far.extend([1, 0x61]);
     walks(h, &table, &far, b"a", &[]);
     h.put_known(compare(&table, 254, &far, &near), 0, 2, &[]);
+}
 
-    h.from("126 tagged Empties beside a byte, 255 times over");
-    let mut records = vec![Record { kind: Kind::Letter(LETTERS[0]), tag: 0 }];
+/// A Star over a letter of the given tag and 126 tagged Empties behind it.
+fn beside_empties(tag: u8) -> Table {
+    let mut records = vec![Record { kind: Kind::Letter(LETTERS[0]), tag }];
     for top in (0..252).step_by(2) {
         records.push(Record { kind: Kind::Empty, tag: 200 });
         records.push(Record { kind: Kind::Seq(top, top + 1), tag: 0 });
     }
     records.push(Record { kind: Kind::Star(252), tag: 0 });
-    let table = Table { records };
+    Table { records }
+}
+
+fn empties(h: &mut Harness) {
+    let line = [0x61; 255];
     let mut one = [4, 0].repeat(126);
     one.extend([1, 0x61]);
     one.extend([0, 0].repeat(126));
     let mut reading = vec![5, 255];
     reading.extend(one.repeat(255));
-    let listed: Vec<u8> = (1..=255).flat_map(|i| [200, i, 0].repeat(126)).collect();
-    all_calls(h, &table, &reading, &[0x61; 255], &listed);
-    let short = refusal(11) + listed.len() as u64;
-    h.put_known(tokens(&table.bytes(), 253, &reading), listed.len() - 1, short, &[]);
+    h.from("126 tagged Empties beside a tagged byte, 255 times over");
+    let table = beside_empties(9);
+    let listed = each_byte(9);
+    all_calls(h, &table, &reading, &line, &listed);
+    h.put_known(tokens(&table.bytes(), 253, &reading), 765, 255, &listed);
+    h.put_known(tokens(&table.bytes(), 253, &reading), 764, refusal(11) + 765, &[]);
+    h.from("126 tagged Empties beside a byte, 255 times over");
+    let table = beside_empties(0).bytes();
+    walks(h, &table, &reading, &line, &[]);
+    h.put_known(tokens(&table, 253, &reading), 0, 0, &[]);
 }
 
 pub fn run() {
     type Part = fn(&mut Harness);
-    let parts: [(&str, Part); 3] = [
+    let parts: [(&str, Part); 4] = [
         ("stack of 1 MiB, nests of Stars", stars),
         ("stack of 1 MiB, readings of over 10 MB", millions),
         ("stack of 1 MiB, combs of Or and Seq", combs),
+        ("stack of 1 MiB, empty tagged parts", empties),
     ];
     for (name, part) in parts {
         let thread = std::thread::Builder::new().stack_size(STACK).spawn(move || {

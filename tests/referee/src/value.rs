@@ -34,6 +34,17 @@ impl Value {
         line
     }
 
+    /// The parts right inside a value of that kind, each with its record.
+    pub fn parts(&self, kind: Kind) -> Vec<(usize, &Value)> {
+        match (kind, self) {
+            (Kind::Or(r1, _), Value::Left(v)) => vec![(r1, v.as_ref())],
+            (Kind::Or(_, r2), Value::Right(v)) => vec![(r2, v.as_ref())],
+            (Kind::Seq(r1, r2), Value::Seq(v1, v2)) => vec![(r1, v1.as_ref()), (r2, v2.as_ref())],
+            (Kind::Star(r), Value::Stars(vs)) => vs.iter().map(|v| (r, v.as_ref())).collect(),
+            _ => vec![],
+        }
+    }
+
     /// The reading: parent first, two bytes for each record.
     pub fn write(&self, out: &mut Vec<u8>) {
         match self {

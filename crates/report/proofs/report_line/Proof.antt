@@ -6,7 +6,7 @@ use lib.ListN.{length}
 use lib.Seq.{length-take-le}
 use Rattle.table.specs.Answers.{says}
 use Rattle.matcher.specs.Calls.{PosixWritten}
-use Rattle.report.proofs.Reports.{reading-room, line-read, line-refused}
+use Rattle.report.proofs.Reports.{reading-room, line-reading, line-read, line-refused}
 use Rattle.report.proofs.report_line.Statement.{statement}
 use Rattle.report.proofs.report_line.Tie as tie
 
@@ -33,7 +33,7 @@ slice-aggregate-report-reading : tie.Need-slice-aggregate-report-reading
 slice-aggregate-report-reading c = sym (length-take-le _ _ (reading-room (posix (c .before .before))))
 
 report-reading-requires : tie.Need-report-reading-requires
-report-reading-requires c κs = search needs
+report-reading-requires c κs = (line-reading (posix (c .before .before .before .before)) (length (c .before .before .before .before .before .before .before .before .before .before .before .before .before .before .before .before .before .before .before .args .work .now)) (length (c .before .before .before .before .before .before .before .before .before .before .before .before .before .before .before .before .before .before .before .args .reading .now)) (c .before .before .before .before .before .before .before .before .before .before .read .ensures .0) (c .before .before .before .before .records .given .1), (c .before .before .before .before .before .before .before .before .before .before .before .before .before .before .before .before .before .before .before .pre .1 .1 .0, c .before .before .before .before .before .before .before .before .before .before .before .before .before .before .before .before .before .before .before .pre .1 .1 .1))
 
 enum-known-why : tie.Need-enum-known-why
 enum-known-why c = search needs

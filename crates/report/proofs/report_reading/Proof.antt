@@ -1,8 +1,8 @@
--- `report::report_reading` meets its contract: the tokens' lines after the line's own, or the refusal. Assumes nothing.
+-- `report::report_reading` meets its contract: the tokens' lines after the line's own. Tokens does not refuse the reading. Assumes nothing.
 use native.Mathlib.Omega.{arith}
 use borrow.Author.Needs.{needs}
 use Rattle.report.proofs.Writes.{wrote-length}
-use Rattle.report.proofs.Reports.{Tokenized, tokenized, reading-listed, reading-refused}
+use Rattle.report.proofs.Reports.{Tokenized, tokenized, reading-listed, not-refused}
 use Rattle.report.proofs.report_reading.Statement.{statement}
 use Rattle.report.proofs.report_reading.Tie as tie
 
@@ -20,20 +20,14 @@ listing :
     (c : tie.After-count)
     → Tokenized (c .before .before .before .before .before .before .before .before .before .before .args .table .now) (c .before .before .before .before .before .before .before .before .before .before .args .start) (c .before .before .before .before .before .before .before .before .before .before .args .reading .now) (c .before .before .before .before .tokens .last .1 .1 .1 .0) (c .count .given .0 .0)
 listing c =
-    tokenized (c .before .before .before .before .before .before .before .before .before .before .args .table .now) (c .before .before .before .before .before .before .before .before .before .before .args .start) (c .before .before .before .before .before .before .before .before .before .before .args .reading .now) (c .before .before .before .before .before .before .before .before .before .before .args .list .now) (c .before .before .before .before .tokens .last .1 .1 .1 .0)
-    (c .count .given .0 .0) (c .before .before .before .before .before .before .before .before .before .before .pre .0) (c .before .before .before .before .tokens .ensures .0) (c .count .given .1) (c .before .before .before .before .tokens .ensures .1)
+    tokenized (c .before .before .before .before .before .before .before .before .before .before .pre .0) (c .before .before .before .before .before .before .before .before .before .before .args .list .now) (c .before .before .before .before .tokens .last .1 .1 .1 .0) (c .count .given .0 .0) (c .before .before .before .before .before .before .before .before .before .before .pre .1 .0) (c .before .before .before .before .tokens .ensures .0)
+    (c .count .given .1) (c .before .before .before .before .tokens .ensures .1)
 
 put-tokens-requires : tie.Need-put-tokens-requires
-put-tokens-requires c κs = let x = listing (c .before .before .before .before .before .before .before) in (omega (arith, x .few, c .before .before .before .before .before .before .before .before .before .before .before .before .before .before .before .before .before .pre .0, c .before .before .before .before .before .before .before .before .before .before .before .tokens .kept .1 .1 .1 .0), omega (arith, x .few, c .before .before .before .before .before .before .before .before .before .before .before .before .before .before .before .before .before .pre .1, c .before .before .before .before .put-ok .ensures .0, wrote-length (c .before .before .before .before .put-ok .ensures .1)))
+put-tokens-requires c κs = let x = listing (c .before .before .before .before .before .before .before) in (omega (arith, x .few, c .before .before .before .before .before .before .before .before .before .before .before .before .before .before .before .before .before .pre .1 .0, c .before .before .before .before .before .before .before .before .before .before .before .tokens .kept .1 .1 .1 .0), omega (arith, x .few, c .before .before .before .before .before .before .before .before .before .before .before .before .before .before .before .before .before .pre .1 .1, c .before .before .before .before .put-ok .ensures .0, wrote-length (c .before .before .before .before .put-ok .ensures .1)))
 
-enum-known-why : tie.Need-enum-known-why
-enum-known-why c = search needs
-
-refusal-number-requires : tie.Need-refusal-number-requires
-refusal-number-requires c κs = search needs
-
-put-refused-requires : tie.Need-put-refused-requires
-put-refused-requires c κs = search needs
+enum-told : tie.Need-enum-told
+enum-told c = search needs
 
 same-length : tie.Need-same-length
 same-length c = search needs
@@ -47,11 +41,8 @@ returns c = let x = listing (c .before .before .before .before .before .before .
 same-length-3 : tie.Need-same-length-3
 same-length-3 c = search needs
 
-same-length-4 : tie.Need-same-length-4
-same-length-4 c = search needs
-
 returns-2 : tie.Need-returns-2
-returns-2 c = (omega (arith, c .before .before .put-refused .ensures .0), reading-refused (c .before .before .before .before .before .before .before .before .before .before .before .before .before .before .before .before .args .table .now) (c .before .before .before .before .before .before .before .before .before .before .before .before .before .before .before .before .args .start) (c .before .before .before .before .before .before .before .before .before .before .before .before .before .before .before .before .args .reading .now) (c .before .before .before .before .before .before .before .before .before .before .before .before .before .before .before .before .args .list .now) (c .before .before .before .before .before .before .before .before .before .before .before .before .before .before .before .before .args .number) (c .before .before .before .before .before .before .before .before .before .before .before .before .before .before .before .before .pre .0) (c .before .before .before .before .before .before .before .before .before .before .tokens .ensures .0) (c .before .before .before .before .before .before .why .given .1) (c .before .before .before .refusal-number .ensures) (c .before .before .put-refused .ensures .1))
+returns-2 c = absurd (not-refused (c .before .before .before .before .before .before .before .before .before .before .pre .0) (c .before .before .before .before .before .before .before .before .before .before .args .list .now) (c .before .before .before .before .before .before .before .before .before .before .pre .1 .0) (c .before .before .before .before .tokens .ensures .0) (c .enum-told .given .1))
 
 pub report-reading-spec : {M : Type 1} → statement M
 report-reading-spec =
@@ -61,12 +52,9 @@ report-reading-spec =
     enum-known-count
     put-ok-requires
     put-tokens-requires
-    enum-known-why
-    refusal-number-requires
-    put-refused-requires
+    enum-told
     same-length
     same-length-2
     returns
     same-length-3
-    same-length-4
     returns-2)

@@ -7,7 +7,7 @@ use borrow.Author.Needs.{needs}
 use borrow.Fn.Kinds.{In}
 use borrow.Fn.PlainCycle.{Measures, is, falls, and}
 use Rattle.reading.specs.declared.Shape.{Shape}
-use Rattle.tokens.proofs.Walks.{Walked, walked, part-fits, token-bytes, token-low, token-room, token-listed, Walking, walk-start, walk-offset, walk-part, walk-size, walk-next, walk-length, walk-end}
+use Rattle.tokens.proofs.Walks.{Walked, walked, part-fits, left-out, token-bytes, token-low, token-room, token-listed, Walking, walk-start, walk-offset, walk-part, walk-size, walk-next, walk-length, walk-end}
 use Rattle.tokens.proofs.list_element.Reads as list-element
 use Rattle.tokens.proofs.list_element.Kinds as list-element-kinds
 use Rattle.tokens.proofs.+list_element+list_iterations.Lts-list_element as list-element-lts
@@ -93,20 +93,23 @@ list-element-tag-at-requires t c κs = omega (arith, c .before .before .before .
 list-element-part-length-requires : (t : ℕ) → list-element-lts.Need-part-length-requires (element-claims t) (list-element-at t) list-element.Post
 list-element-part-length-requires t c κs = (c .before .before .before .before .before .pre .1 .0, (c .before .before .before .before .before .pre .1 .1 .0, (c .before .before .before .before .before .pre .1 .1 .1 .0, part-fits _ _ _ _ _ _ _ _ (c .before .before .before .before .before .pre .1 .1 .1 .1))))
 
+list-element-returns : (t : ℕ) → list-element-lts.Need-returns (element-claims t) (list-element-at t) list-element.Post
+list-element-returns t c = left-out _ _ (c .before .before .before .before .tag-at .ensures) (c .before .before .before .if1 .taken) _ _ _ _ _ (c .before .before .before .before .before .before .before .before .args .out .now) (c .before .before .before .before .before .before .before .before .pre .1 .1 .1 .1) _ (c .before .before .part-length .ensures) (omega (arith, c .if2 .taken)) _ (omega arith) (omega arith) (omega arith)
+
 list-element-put-requires : (t : ℕ) → list-element-lts.Need-put-requires (element-claims t) (list-element-at t) list-element.Post
 list-element-put-requires t c κs = (
-  token-bytes _ _ (c .before .before .before .before .tag-at .ensures) (c .before .before .before .if1 .taken) _ _ _ _ _ (c .before .before .before .before .before .before .before .before .args .out .now) (c .before .before .before .before .before .before .before .before .pre .1 .1 .1 .1) _ (c .before .before .part-length .ensures),
+  token-bytes _ _ (c .before .before .before .before .before .tag-at .ensures) (c .before .before .before .before .if1 .taken) _ _ _ _ _ (c .before .before .before .before .before .before .before .before .before .args .out .now) (c .before .before .before .before .before .before .before .before .before .pre .1 .1 .1 .1) _ (c .before .before .before .part-length .ensures),
   (
-    token-low _ _ (c .before .before .before .before .tag-at .ensures) (c .before .before .before .if1 .taken) _ _ _ _ _ (c .before .before .before .before .before .before .before .before .args .out .now) (c .before .before .before .before .before .before .before .before .pre .1 .1 .1 .1) _ (c .before .before .part-length .ensures),
-    token-room _ _ (c .before .before .before .before .tag-at .ensures) (c .before .before .before .if1 .taken) _ _ _ _ _ (c .before .before .before .before .before .before .before .before .args .out .now) (c .before .before .before .before .before .before .before .before .pre .1 .1 .1 .1) _ (c .before .before .part-length .ensures),
+    token-low _ _ (c .before .before .before .before .before .tag-at .ensures) (c .before .before .before .before .if1 .taken) _ _ _ _ _ (c .before .before .before .before .before .before .before .before .before .args .out .now) (c .before .before .before .before .before .before .before .before .before .pre .1 .1 .1 .1) _ (c .before .before .before .part-length .ensures) (omega (arith, c .before .if2 .left)),
+    token-room _ _ (c .before .before .before .before .before .tag-at .ensures) (c .before .before .before .before .if1 .taken) _ _ _ _ _ (c .before .before .before .before .before .before .before .before .before .args .out .now) (c .before .before .before .before .before .before .before .before .before .pre .1 .1 .1 .1) _ (c .before .before .before .part-length .ensures) (omega (arith, c .before .if2 .left)),
   ),
 )
 
 list-element-same-length : (t : ℕ) → list-element-lts.Need-same-length (element-claims t) (list-element-at t) list-element.Post
 list-element-same-length t c = c .before .before .put .kept .0
 
-list-element-returns : (t : ℕ) → list-element-lts.Need-returns (element-claims t) (list-element-at t) list-element.Post
-list-element-returns t c = token-listed _ _ (c .before .before .before .before .before .before .before .tag-at .ensures) (c .before .before .before .before .before .before .if1 .taken) _ _ _ _ _ (c .before .before .before .before .before .before .before .before .before .before .before .args .out .now) (c .before .before .before .before .before .before .before .before .before .before .before .pre .1 .1 .1 .1) _ (c .before .before .before .before .before .part-length .ensures) _ _ (c .before .before .put .ensures .0) (c .before .before .put .ensures .1)
+list-element-returns-2 : (t : ℕ) → list-element-lts.Need-returns-2 (element-claims t) (list-element-at t) list-element.Post
+list-element-returns-2 t c = token-listed _ _ (c .before .before .before .before .before .before .before .before .tag-at .ensures) (c .before .before .before .before .before .before .before .if1 .taken) _ _ _ _ _ (c .before .before .before .before .before .before .before .before .before .before .before .before .args .out .now) (c .before .before .before .before .before .before .before .before .before .before .before .before .pre .1 .1 .1 .1) _ (c .before .before .before .before .before .before .part-length .ensures) (omega (arith, c .before .before .before .before .if2 .left)) _ _ (omega arith) (omega arith) (omega (arith, c .before .before .put .ensures .0)) (c .before .before .put .ensures .1)
 
 list-element-step-requires : (t : ℕ) → list-element-lts.Need-step-requires (element-claims t) (list-element-at t) list-element.Post
 list-element-step-requires t c κs = search needs
@@ -177,35 +180,35 @@ list-element-list-iterations-requires t c κs = (
 list-element-enum-told : (t : ℕ) → list-element-lts.Need-enum-told (element-claims t) (list-element-at t) list-element.Post
 list-element-enum-told t c = c .match .keys6
 
-list-element-returns-2 : (t : ℕ) → list-element-lts.Need-returns-2 (element-claims t) (list-element-at t) list-element.Post
-list-element-returns-2 t c = sees t (c .before .before .before) (c .before .size .given .1)
+list-element-returns-3 : (t : ℕ) → list-element-lts.Need-returns-3 (element-claims t) (list-element-at t) list-element.Post
+list-element-returns-3 t c = sees t (c .before .before .before) (c .before .size .given .1)
 
 list-element-same-length-2 : (t : ℕ) → list-element-lts.Need-same-length-2 (element-claims t) (list-element-at t) list-element.Post
 list-element-same-length-2 t c = c .before .before .list-element .kept .1 .1 .1 .1 .1 .0
 
-list-element-returns-3 : (t : ℕ) → list-element-lts.Need-returns-3 (element-claims t) (list-element-at t) list-element.Post
-list-element-returns-3 t c = sees t (c .before .before .before .before .before .before .before) (c .before .before .before .before .before .c .given .1) .3 _ _ (c .before .before .list-element .ensures)
+list-element-returns-4 : (t : ℕ) → list-element-lts.Need-returns-4 (element-claims t) (list-element-at t) list-element.Post
+list-element-returns-4 t c = sees t (c .before .before .before .before .before .before .before) (c .before .before .before .before .before .c .given .1) .3 _ _ (c .before .before .list-element .ensures)
 
 list-element-same-length-3 : (t : ℕ) → list-element-lts.Need-same-length-3 (element-claims t) (list-element-at t) list-element.Post
 list-element-same-length-3 t c = c .before .before .list-element2 .kept .1 .1 .1 .1 .1 .0
 
-list-element-returns-4 : (t : ℕ) → list-element-lts.Need-returns-4 (element-claims t) (list-element-at t) list-element.Post
-list-element-returns-4 t c = sees t (c .before .before .before .before .before .before .before) (c .before .before .before .before .before .c2 .given .1) .3 _ _ (c .before .before .list-element2 .ensures)
+list-element-returns-5 : (t : ℕ) → list-element-lts.Need-returns-5 (element-claims t) (list-element-at t) list-element.Post
+list-element-returns-5 t c = sees t (c .before .before .before .before .before .before .before) (c .before .before .before .before .before .c2 .given .1) .3 _ _ (c .before .before .list-element2 .ensures)
 
 list-element-same-length-4 : (t : ℕ) → list-element-lts.Need-same-length-4 (element-claims t) (list-element-at t) list-element.Post
 list-element-same-length-4 t c = c .before .before .before .before .before .list-element4 .kept .1 .1 .1 .1 .1 .0 ∙ c .before .before .before .before .before .before .before .before .before .before .before .list-element3 .kept .1 .1 .1 .1 .1 .0
 
-list-element-returns-5 : (t : ℕ) → list-element-lts.Need-returns-5 (element-claims t) (list-element-at t) list-element.Post
-list-element-returns-5 t c = sees t (c .before .before .before .before .before .before .before .before .before .before .before .before .before .before .before .before) (c .before .before .before .before .before .before .before .before .before .before .before .before .before .before .c3 .given .1) .4 _ _ (c .before .before .before .before .before .before .before .before .before .before .before .list-element3 .ensures) .both _ _ (c .before .before .before .before .before .list-element4 .ensures)
+list-element-returns-6 : (t : ℕ) → list-element-lts.Need-returns-6 (element-claims t) (list-element-at t) list-element.Post
+list-element-returns-6 t c = sees t (c .before .before .before .before .before .before .before .before .before .before .before .before .before .before .before .before) (c .before .before .before .before .before .before .before .before .before .before .before .before .before .before .c3 .given .1) .4 _ _ (c .before .before .before .before .before .before .before .before .before .before .before .list-element3 .ensures) .both _ _ (c .before .before .before .before .before .list-element4 .ensures)
 
 list-element-same-length-5 : (t : ℕ) → list-element-lts.Need-same-length-5 (element-claims t) (list-element-at t) list-element.Post
 list-element-same-length-5 t c = c .before .before .list-iterations .kept .1 .1 .1 .1 .1 .1 .0
 
-list-element-returns-6 : (t : ℕ) → list-element-lts.Need-returns-6 (element-claims t) (list-element-at t) list-element.Post
-list-element-returns-6 t c = sees t (c .before .before .before .before .before .before .before) (c .before .before .before .before .before .c4 .given .1) .3 _ _ (c .before .before .list-iterations .ensures)
-
 list-element-returns-7 : (t : ℕ) → list-element-lts.Need-returns-7 (element-claims t) (list-element-at t) list-element.Post
-list-element-returns-7 t c = absurd (sees t (c .before .before) (c .enum-told .given .1))
+list-element-returns-7 t c = sees t (c .before .before .before .before .before .before .before) (c .before .before .before .before .before .c4 .given .1) .3 _ _ (c .before .before .list-iterations .ensures)
+
+list-element-returns-8 : (t : ℕ) → list-element-lts.Need-returns-8 (element-claims t) (list-element-at t) list-element.Post
+list-element-returns-8 t c = absurd (sees t (c .before .before) (c .enum-told .given .1))
 
 abbrev list-iterations-Inv-loop : list-iterations-lts.InvT-loop
 list-iterations-Inv-loop table c times reading offset out₀ at writing left₀ next₀ size₀ to₀ out left next size to =
@@ -248,9 +251,10 @@ pub +list-element+list-iterations-spec : {M : Type 1} → statement M
     list-element.Post
     (list-element-tag-at-requires t)
     (list-element-part-length-requires t)
+    (list-element-returns t)
     (list-element-put-requires t)
     (list-element-same-length t)
-    (list-element-returns t)
+    (list-element-returns-2 t)
     (list-element-step-requires t)
     (list-element-look-requires t)
     (list-element-enum-known-size t)
@@ -266,16 +270,16 @@ pub +list-element+list-iterations-spec : {M : Type 1} → statement M
     (list-element-enum-known-c-4 t)
     (list-element-list-iterations-requires t)
     (list-element-enum-told t)
-    (list-element-returns-2 t)
-    (list-element-same-length-2 t)
     (list-element-returns-3 t)
-    (list-element-same-length-3 t)
+    (list-element-same-length-2 t)
     (list-element-returns-4 t)
-    (list-element-same-length-4 t)
+    (list-element-same-length-3 t)
     (list-element-returns-5 t)
-    (list-element-same-length-5 t)
+    (list-element-same-length-4 t)
     (list-element-returns-6 t)
-    (list-element-returns-7 t))
+    (list-element-same-length-5 t)
+    (list-element-returns-7 t)
+    (list-element-returns-8 t))
     λ t. list-iterations-lts.spec
     (iterations-claims t)
     (list-iterations-at t)

@@ -1,0 +1,61 @@
+-- The program refuses no line by 11: where its work area is enough for a line, its reading buffer is too. (Tokens refuses no reading at all:
+-- Reports.tokens-given.)
+-- Assumes nothing.
+use Prim.Native.Nat.{ℕ, _+_, _*_, _≤_, _<_, max}
+use mathlib.Core.Path.{_≡_, refl}
+use mathlib.Core.Bool.{Bool, true, false}
+use mathlib.Core.List.{List}
+use native.Mathlib.Omega.{arith}
+use native.Mathlib.Nat.{mul-le-mul, mul-le-mul-left}
+use borrow.Author.Tests.{ltb-true, ltb-false}
+use lib.Dec.{ltb}
+use lib.ListN.{length}
+use Rattle.regex.specs.Values.{records}
+use Rattle.regex.specs.Decision.{Parsed, found, missing, parse}
+use Rattle.regex.specs.Relation.{Posix}
+use Rattle.regex.proofs.Parse.{parse-sound}
+use Rattle.regex.proofs.Flats.{posix-flat, posix-reads}
+use Rattle.table.specs.Records.{count}
+use Rattle.table.specs.Faults.{Passes}
+use Rattle.table.specs.Answers.{refuses}
+use Rattle.table.specs.Expression.{expOf}
+use Rattle.table.proofs.Passing.{count-bound}
+use Rattle.reading.specs.Codec.{encode}
+use Rattle.reading.proofs.Lengths.{encode-length}
+use Rattle.reading.proofs.Sizes.{records-reads}
+use Rattle.reading.proofs.Saying.{NotBuffer, said-or, not-buffer, start-not-buffer, room-not-buffer}
+use Rattle.matcher.specs.Calls.{workSize, readParsed, readSays}
+use Rattle.report.specs.Report.{workLength, readingLength}
+
+-- at most 255 records, and a work area that is enough for n bytes
+few : (m n : ℕ) → m ≤ 255 → workSize m n ≤ workLength → m * max n 1 ≤ 16384
+few m n h w = go (ltb 5 n) refl
+  where
+    go : (b : Bool) → ltb 5 n ≡ b → m * max n 1 ≤ 16384
+    go false e =
+        let x : max n 1 ≤ 5 = omega (arith, ltb-false 5 n e) in
+        let y : m * max n 1 ≤ 255 * 5 = mul-le-mul h x in
+        omega arith
+    go true e =
+        let l : 5 < n = ltb-true 5 n e in
+        let x : m * (n + 1) * 8 ≤ m * (n + 1) * (n + 2) = mul-le-mul-left (m * (n + 1)) (omega arith) in
+        let y : m * n ≤ m * (n + 1) = mul-le-mul-left m (omega arith) in
+        let f : max n 1 ≡ n = omega arith in
+        rw f (omega arith)
+
+pub never-buffer : (t : List ℕ) (k : ℕ) (s : List ℕ) → NotBuffer (readSays t k s workLength readingLength)
+unfolding readSays
+never-buffer t k s =
+    start-not-buffer t k _
+    (λ p l. said-or NotBuffer (ltb 255 (length s)) (refuses 7 0) _ (not-buffer 7 0 (omega arith))
+    (λ a. said-or NotBuffer (ltb workLength (workSize (count t) (length s))) (refuses 10 0) _ (not-buffer 10 0 (omega arith))
+    (λ b. go p l (few (count t) (length s) (count-bound t p .1) (ltb-false workLength (workSize (count t) (length s)) b)) (parse (expOf t k) s) refl)))
+  where
+    go :
+        Passes t → k < count t → count t * max (length s) 1 ≤ 16384 → (x : Parsed) → parse (expOf t k) s ≡ x
+        → NotBuffer (readParsed x readingLength)
+    go p l h missing e = not-buffer 8 0 (omega arith)
+    go p l h (found v) e =
+        let q : Posix s (expOf t k) v = parse-sound (expOf t k) s v e in
+        let r : records v ≤ count t * max (length s) 1 = rw (posix-flat q) at (records-reads t p k l (posix-reads q)) in
+        room-not-buffer readingLength (encode v) (records v) (omega (arith, encode-length (posix-reads q)))
