@@ -84,7 +84,7 @@ sees :
     (c .before .before .before .before .before .before .before .args .place .at) (c .before .before .before .before .before .before .before .args .offset) (c .before .before .before .before .before .before .before .args .at) (c .before .before .before .before .before .before .before .args .writing)
     (c .before .before .before .before .before .before .before .args .out .now) (c .before .step .result .at) u
 sees t c f =
-    walked _ (c .before .before .before .before .before .before .before .pre .1 .0) _ (c .before .before .before .before .before .before .before .pre .1 .1 .0) (c .before .before .before .tag-at .ensures) (c .before .before .if1 .left) _ _ _ _ _
+    walked _ (c .before .before .before .before .before .before .before .pre .1 .0) _ (c .before .before .before .before .before .before .before .pre .1 .1 .0) (c .before .before .before .tag-at .ensures) (omega (arith, c .before .before .if1 .left)) _ _ _ _ _
     (c .before .before .before .before .before .before .before .args .out .now) (c .before .before .before .before .before .before .before .pre .1 .1 .1 .1) (c .before .step .ensures) (c .look .ensures) f
 
 list-element-tag-at-requires : (t : ℕ) → list-element-lts.Need-tag-at-requires (element-claims t) (list-element-at t) list-element.Post
