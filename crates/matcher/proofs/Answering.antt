@@ -22,7 +22,7 @@ use Rattle.table.proofs.Passing.{count-bound}
 use Rattle.table.proofs.Nodes.{nodes-bound}
 use Rattle.area.specs.Area.{areaSize, part}
 use Rattle.reading.specs.Codec.{encode}
-use Rattle.reading.specs.Calls.{ifRoom, after}
+use Rattle.table.specs.Buffers.{ifRoom, after}
 use Rattle.reading.proofs.Lengths.{encode-length}
 use Rattle.reading.specs.Writing.{wrote}
 use Rattle.reading.proofs.Writing.{sets-front}

@@ -30,7 +30,8 @@ use Rattle.area.specs.Area.{areaSize, rowAt, tells, Told}
 use Rattle.area.proofs.Places.{areaSize-formula, row-inside}
 use Rattle.reading.specs.Codec.{fits, encode, decode}
 use Rattle.reading.specs.Fitting.{spelled}
-use Rattle.reading.specs.Calls.{ifStart, ifRoom, after, bytesOf}
+use Rattle.table.specs.Buffers.{ifRoom, after}
+use Rattle.reading.specs.Calls.{ifStart, bytesOf}
 use Rattle.reading.proofs.Codec.{decode-complete}
 use Rattle.reading.proofs.Lengths.{spelled-fits}
 use Rattle.reading.proofs.Admission.{Admitted, refusal-numbers, not-admitted}

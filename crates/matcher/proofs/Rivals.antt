@@ -23,7 +23,7 @@ use Rattle.table.specs.Answers.{Said, gives, refuses}
 use Rattle.table.proofs.Checking.{check-passes}
 use Rattle.reading.specs.Codec.{encode}
 use Rattle.reading.specs.Fitting.{Fits}
-use Rattle.reading.specs.Calls.{ifRoom}
+use Rattle.table.specs.Buffers.{ifRoom}
 use Rattle.reading.proofs.Lengths.{encode-length, spelled-fits}
 use Rattle.ranking.specs.Answers.{compareSays}
 use Rattle.ranking.specs.OneLine.{OneLine}

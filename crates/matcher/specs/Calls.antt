@@ -17,7 +17,8 @@ use Rattle.table.specs.Checked.{orElse}
 use Rattle.table.specs.Expression.{expOf}
 use Rattle.reading.specs.Codec.{encode}
 use Rattle.reading.specs.Fitting.{Fits, spelled}
-use Rattle.reading.specs.Calls.{ifStart, ifRoom, after, bytesOf}
+use Rattle.table.specs.Buffers.{ifRoom, after}
+use Rattle.reading.specs.Calls.{ifStart, bytesOf}
 
 -- "For a line of n bytes the work area has at least m times (n+1) times (n+2) / 2 bytes."
 abbrev pub workSize : ℕ → ℕ → ℕ

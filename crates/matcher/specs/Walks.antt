@@ -14,7 +14,7 @@ use Rattle.table.specs.Answers.{Said}
 use Rattle.table.specs.Expression.{expOf}
 use Rattle.area.specs.Area.{areaSize, tells, part, Told}
 use Rattle.reading.specs.Codec.{iterations, encode}
-use Rattle.reading.specs.Calls.{ifRoom, after}
+use Rattle.table.specs.Buffers.{ifRoom, after}
 use Rattle.reading.specs.Writing.{wrote}
 
 -- record k spells the first e of the last d bytes of the line, and the area tells the truth

@@ -15,7 +15,8 @@ use Rattle.table.specs.Faults.{Passes}
 use Rattle.table.specs.Answers.{gives, refuses}
 use Rattle.table.specs.Checked.{orElse}
 use Rattle.reading.specs.Fitting.{Fits, readingOf}
-use Rattle.reading.specs.Calls.{ifStart, ifFits, ifRoom, spellSays}
+use Rattle.table.specs.Buffers.{ifRoom}
+use Rattle.reading.specs.Calls.{ifStart, ifFits, spellSays}
 use Rattle.reading.proofs.Fitting.{found-fits, missing-unfit}
 use Rattle.reading.proofs.Admission.{start-inside}
 

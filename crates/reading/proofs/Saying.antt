@@ -13,7 +13,8 @@ use Rattle.table.specs.Faults.{Passes, fault}
 use Rattle.table.specs.Answers.{Said, gives, refuses}
 use Rattle.table.specs.Checked.{orElse, checked, RefusedFor, of-size, of-record}
 use Rattle.table.proofs.Checking.{check-gives, check-refuses}
-use Rattle.reading.specs.Calls.{ifPassed, ifStart, ifRoom}
+use Rattle.table.specs.Buffers.{ifRoom}
+use Rattle.reading.specs.Calls.{ifPassed, ifStart}
 
 -- either of two
 pub said-or : (P : Said → Type 0) (b : Bool) (x y : Said) → P x → (b ≡ false → P y) → P (orElse b x y)

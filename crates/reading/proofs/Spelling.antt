@@ -17,7 +17,8 @@ use Rattle.table.specs.Faults.{Passes}
 use Rattle.table.specs.Answers.{Said, gives, refuses, refusal, says}
 use Rattle.table.specs.Checked.{orElse}
 use Rattle.reading.specs.Fitting.{Fits, spelled, readingOf}
-use Rattle.reading.specs.Calls.{ifStart, ifFits, ifRoom, after, bytesOf, spellSays, spellLeaves}
+use Rattle.table.specs.Buffers.{ifRoom, after}
+use Rattle.reading.specs.Calls.{ifStart, ifFits, bytesOf, spellSays, spellLeaves}
 use Rattle.reading.proofs.Fitting.{fits-found}
 use Rattle.reading.proofs.Lengths.{spelled-fits}
 use Rattle.reading.proofs.Admission.{Admitted, start-inside, refusal-numbers, not-admitted}

@@ -3,14 +3,15 @@
 -- Assumes nothing.
 use Prim.Native.Nat.{ℕ}
 use mathlib.Core.Bool.{not}
-use mathlib.Core.List.{List, [], _++_}
+use mathlib.Core.List.{List, []}
 use lib.Dec.{ltb}
-use lib.ListN.{length, drop}
+use lib.ListN.{length}
 use Rattle.regex.specs.Values.{Val, flat}
 use Rattle.regex.specs.Decision.{Parsed, found, missing}
 use Rattle.table.specs.Records.{count}
 use Rattle.table.specs.Answers.{Said, gives, refuses}
 use Rattle.table.specs.Checked.{orElse, checked}
+use Rattle.table.specs.Buffers.{ifRoom, after}
 use Rattle.reading.specs.Fitting.{readingOf}
 
 -- refusals 1 to 6, then what is said of a table that passes
@@ -22,19 +23,10 @@ ifPassed (refuses n d) said = refuses n d
 abbrev pub ifStart : List ℕ → ℕ → Said → Said
 ifStart t k said = ifPassed (checked t) (orElse (not (ltb k (count t))) (refuses 9 0) said)
 
--- an answer of some bytes and a result: 11 where the buffer is shorter, with the bytes needed
-abbrev pub ifRoom : ℕ → List ℕ → ℕ → Said
-ifRoom room bytes result = orElse (ltb room (length bytes)) (refuses 11 (length bytes)) (gives result)
-
 -- 12, then 13, then what is said of a reading that fits and spells at most 255 bytes
 abbrev pub ifFits : Parsed → (Val → Said) → Said
 ifFits missing said = refuses 12 0
 ifFits (found v) said = orElse (ltb 255 (length (flat v))) (refuses 13 0) (said v)
-
--- the buffer after an answer: its bytes in front and the later bytes left, or nothing changed by a refusal
-abbrev pub after : Said → List ℕ → List ℕ → List ℕ
-after (gives n) bytes out = bytes ++ drop (length bytes) out
-after (refuses n d) bytes out = out
 
 -- what a call that writes says of a reading, and the bytes that it writes
 abbrev pub bytesOf : Parsed → (Val → List ℕ) → List ℕ

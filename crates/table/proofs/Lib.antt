@@ -9,3 +9,4 @@ mod Own
 mod Naming
 mod Letters
 mod Scan
+mod Storing

@@ -3,7 +3,7 @@
 -- Assumes nothing.
 use Prim.Native.Nat.{ℕ, _+_, _*_}
 use Rattle.table.specs.declared.Refusal.{Refusal}
-use Rattle.table.specs.declared.Refusal.the-variants.{Size, Kind, Unused, Bounds, Child, Named, Line, NoReading, Start, Work, Buffer, Unfit, Long, Differ}
+use Rattle.table.specs.declared.Refusal.the-variants.{Size, Kind, Unused, Bounds, Child, Named, Line, NoReading, Start, Work, Buffer, Unfit, Long, Differ, Text, Records}
 use Rattle.table.specs.declared.Answer.{Answer}
 use Rattle.table.specs.declared.Answer.the-variants.{Done, Refused}
 
@@ -28,6 +28,8 @@ refusal (Buffer n) = refuses 11 n
 refusal (Unfit i) = refuses 12 i
 refusal (Long i) = refuses 13 i
 refusal Differ = refuses 14 0
+refusal Text = refuses 15 0
+refusal Records = refuses 16 0
 
 -- the answer in the paper's numbers
 abbrev pub says : Answer → Said

@@ -4,6 +4,7 @@ pub mod Records
 pub mod Faults
 pub mod Answers
 pub mod Checked
+pub mod Buffers
 pub mod Expression
 -- What only the functions inside are given and leave.
 pub mod Letters

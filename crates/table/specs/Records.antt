@@ -3,7 +3,7 @@
 -- Assumes nothing.
 use Prim.Native.Nat.{ℕ, _+_, _*_, _/_}
 use mathlib.Core.Bool.{Bool, _||_}
-use mathlib.Core.List.{List}
+use mathlib.Core.List.{List, [], _∷_}
 use lib.Dec.{eqb}
 use lib.ListN.{length, getD, take}
 
@@ -30,6 +30,13 @@ bAt t k = getD t (4 * k + 2) 0
 
 abbrev pub tagAt : List ℕ → ℕ → ℕ
 tagAt t k = getD t (4 * k + 3) 0
+
+-- the bytes of a record by its fields, and those of record k
+abbrev pub recordBytes : ℕ → ℕ → ℕ → ℕ → List ℕ
+recordBytes kind a b tag = kind ∷ a ∷ b ∷ tag ∷ []
+
+abbrev pub recordAt : List ℕ → ℕ → List ℕ
+recordAt t k = recordBytes (kindAt t k) (aAt t k) (bAt t k) (tagAt t k)
 
 -- the kinds by their numbers: record k is a Nothing, an Empty, ..
 abbrev pub isNothing : List ℕ → ℕ → Bool

@@ -3,15 +3,16 @@
 ghost use Prim.Native.Nat.{_+_, _*_, _<_, suc};
 ghost use mathlib.Core.Path.{_≡_};
 ghost use lib.ListN.{length, set};
+ghost use lib.Seq.{sets};
 ghost use Rattle.regex.specs.Expressions.{holds};
-ghost use Rattle.table.specs.Records.{kindAt, aAt, bAt, tagAt};
+ghost use Rattle.table.specs.Records.{kindAt, aAt, bAt, tagAt, recordBytes};
 ghost use Rattle.table.specs.Faults.{badNamed};
 ghost use Rattle.table.specs.Answers.{Said, refuses, refusal, says};
 ghost use Rattle.table.specs.Checked.{checked};
 ghost use Rattle.table.specs.Letters.{byteSet};
 ghost use Rattle.table.specs.Steps.{orSaid, ownFaultOr, isSet, Marks};
 
-// Why a call is refused: one case for each of the paper's numbers 1 to 14, in their order. A case holds the refusal's detail where it
+// Why a call is refused: one case for each of the paper's numbers 1 to 16, in their order. A case holds the refusal's detail where it
 // has one.
 pub enum Refusal {
     Size,
@@ -28,6 +29,8 @@ pub enum Refusal {
     Unfit(usize),
     Long(usize),
     Differ,
+    Text,
+    Records,
 }
 
 // What a call answers: its result, or the refusal.
@@ -103,6 +106,14 @@ pub fn numbers_of(why: Refusal) -> Numbers
             number: 14,
             detail: 0,
         },
+        Refusal::Text => Numbers {
+            number: 15,
+            detail: 0,
+        },
+        Refusal::Records => Numbers {
+            number: 16,
+            detail: 0,
+        },
     }
 }
 
@@ -136,6 +147,25 @@ pub fn tag_at(table: &[u8], k: usize) -> u8
     ensures { λ r. ⌜ r ≡ tagAt (now (table .entry)) k ⌝ }
 {
     table[4 * k + 3]
+}
+
+// Stores record k.
+pub fn put_record(table: &mut [u8], k: usize, kind: u8, a: u8, b: u8, tag: u8)
+    requires { ⌜ 4 * k + 3 < length (now table) ⌝ }
+    ensures { λ r. ⌜ now (table .exit) ≡ sets (now (table .entry)) (4 * k) (recordBytes kind a b tag) ⌝ }
+{
+    table[4 * k] = kind;
+    table[4 * k + 1] = a;
+    table[4 * k + 2] = b;
+    table[4 * k + 3] = tag;
+}
+
+// Stores the tag of record k.
+pub fn put_tag(table: &mut [u8], k: usize, tag: u8)
+    requires { ⌜ 4 * k + 3 < length (now table) ⌝ }
+    ensures { λ r. ⌜ now (table .exit) ≡ set (now (table .entry)) (4 * k + 3) tag ⌝ }
+{
+    table[4 * k + 3] = tag;
 }
 
 // Whether a letter of a kind, a Range or an Other, with the bounds a and b holds byte c.

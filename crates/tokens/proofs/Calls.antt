@@ -22,7 +22,8 @@ use Rattle.table.specs.Checked.{orElse}
 use Rattle.reading.specs.Codec.{encode, fits, decode}
 use Rattle.reading.specs.Fitting.{Fits, readingOf}
 use Rattle.reading.specs.Fitted.{Fitted}
-use Rattle.reading.specs.Calls.{ifStart, ifFits, ifRoom, after, bytesOf}
+use Rattle.table.specs.Buffers.{ifRoom, after}
+use Rattle.reading.specs.Calls.{ifStart, ifFits, bytesOf}
 use Rattle.reading.proofs.Codec.{decode-complete}
 use Rattle.reading.proofs.Fitting.{fits-found}
 use Rattle.reading.proofs.Admission.{Admitted, start-inside, refusal-numbers, not-admitted}

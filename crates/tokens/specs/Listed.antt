@@ -6,7 +6,8 @@ use mathlib.Core.List.{List}
 use lib.ListN.{length}
 use Rattle.table.specs.Answers.{Said}
 use Rattle.reading.specs.Fitting.{readingOf}
-use Rattle.reading.specs.Calls.{ifStart, ifFits, ifRoom, after, bytesOf}
+use Rattle.table.specs.Buffers.{ifRoom, after}
+use Rattle.reading.specs.Calls.{ifStart, ifFits, bytesOf}
 use Rattle.tokens.specs.Tokens.{tokensFrom, tokenBytes}
 
 -- Tokens: the token list from the start record, and the token count

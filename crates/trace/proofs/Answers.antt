@@ -13,7 +13,8 @@ use Rattle.table.specs.Records.{count}
 use Rattle.table.specs.Expression.{expOf}
 use Rattle.table.specs.Answers.{Said, gives, refuses}
 use Rattle.reading.specs.Codec.{encode}
-use Rattle.reading.specs.Calls.{ifRoom, after, spellSays, spellLeaves}
+use Rattle.table.specs.Buffers.{ifRoom, after}
+use Rattle.reading.specs.Calls.{spellSays, spellLeaves}
 use Rattle.reading.proofs.Admission.{or-gives, start-gives}
 use Rattle.tokens.specs.Listed.{tokensSays, tokensLeaves}
 use Rattle.matcher.specs.Calls.{workSize, readParsed, readSays, readLeaves, PosixWritten}

@@ -25,7 +25,8 @@ use Rattle.table.proofs.Checking.{check-gives, check-refuses}
 use Rattle.table.proofs.Passing.{count-bound, or-false-left, or-false-right}
 use Rattle.reading.specs.Codec.{encode}
 use Rattle.reading.specs.Fitting.{Fits, readingOf}
-use Rattle.reading.specs.Calls.{ifStart, ifRoom, ifFits, spellSays}
+use Rattle.table.specs.Buffers.{ifRoom}
+use Rattle.reading.specs.Calls.{ifStart, ifFits, spellSays}
 use Rattle.reading.proofs.Lengths.{encode-length}
 use Rattle.reading.proofs.Fitting.{fits-found}
 use Rattle.reading.proofs.Sizes.{records-reads}

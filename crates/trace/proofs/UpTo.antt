@@ -17,7 +17,8 @@ use Rattle.table.specs.Expression.{expOf}
 use Rattle.table.proofs.UpTo.{up-to-passes, up-to-exp}
 use Rattle.reading.specs.Codec.{decode}
 use Rattle.reading.specs.Fitting.{whole, readingOf}
-use Rattle.reading.specs.Calls.{ifStart, ifFits, ifRoom, after, bytesOf, spellSays, spellLeaves}
+use Rattle.table.specs.Buffers.{ifRoom, after}
+use Rattle.reading.specs.Calls.{ifStart, ifFits, bytesOf, spellSays, spellLeaves}
 use Rattle.reading.proofs.Admission.{start-inside}
 use Rattle.reading.proofs.Fitting.{reading-sound}
 use Rattle.tokens.specs.Tokens.{Token, tokensFrom, tokenBytes}

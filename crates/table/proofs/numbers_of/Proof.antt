@@ -46,6 +46,12 @@ enum-known-why-8 c = c .match .keys13
 enum-told-6 : tie.Need-enum-told-6
 enum-told-6 c = c .match .keys14
 
+enum-told-7 : tie.Need-enum-told-7
+enum-told-7 c = c .match .keys15
+
+enum-told-8 : tie.Need-enum-told-8
+enum-told-8 c = c .match .keys16
+
 returns : tie.Need-returns
 returns c = ap refusal (sym (c .enum-told .given .1))
 
@@ -88,6 +94,12 @@ returns-13 c = ap refusal (sym (c .before .why8 .given .1))
 returns-14 : tie.Need-returns-14
 returns-14 c = ap refusal (sym (c .enum-told6 .given .1))
 
+returns-15 : tie.Need-returns-15
+returns-15 c = ap refusal (sym (c .enum-told7 .given .1))
+
+returns-16 : tie.Need-returns-16
+returns-16 c = ap refusal (sym (c .enum-told8 .given .1))
+
 pub numbers-of-spec : {M : Type 1} → statement M
 numbers-of-spec =
     tie.close
@@ -106,6 +118,8 @@ numbers-of-spec =
     enum-known-why-7
     enum-known-why-8
     enum-told-6
+    enum-told-7
+    enum-told-8
     returns
     returns-2
     returns-3
@@ -119,4 +133,6 @@ numbers-of-spec =
     returns-11
     returns-12
     returns-13
-    returns-14)
+    returns-14
+    returns-15
+    returns-16)
