@@ -5,8 +5,8 @@ use mathlib.Core.Path.{_≡_, refl}
 use mathlib.Core.List.{List, [], _∷_, _++_}
 use Rattle.table.specs.Expression.{below, expOf}
 use Rattle.matcher.specs.Calls.{readSays}
+use Rattle.printing.specs.Decimal.{decimal}
 use Rattle.report.specs.Report.{lineReport, tableReport}
-use Rattle.report.specs.Text.{decimal}
 
 -- T1, whose last record is 9
 abbrev pub T1 : List ℕ

@@ -1,6 +1,4 @@
--- What the program prints: laws of texts, digits and tokens, and the example.
-pub mod Writes
-pub mod Digits
+-- What the program prints: laws of tokens and reports, and the example.
 pub mod TokenLines
 pub mod Cases
 mod Reports

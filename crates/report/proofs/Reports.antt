@@ -29,10 +29,12 @@ use Rattle.tokens.specs.Listed.{tokensSays, tokensLeaves}
 use Rattle.tokens.proofs.Counts.{tokens-count, bytes-count}
 use Rattle.tokens.proofs.Calls.{tokens-writes}
 use Rattle.matcher.specs.Calls.{readSays, PosixWritten}
-use Rattle.report.specs.Text.{okWord, refusedWord, tableWord, decimal}
+use Rattle.printing.specs.Decimal.{decimal}
+use Rattle.printing.specs.Writes.{Wrote}
+use Rattle.printing.proofs.Writes.{wrote-as, wrote-then, wrote-front}
+use Rattle.report.specs.Text.{okWord, refusedWord, tableWord}
 use Rattle.report.specs.Report.{workLength, readingLength, tokenLength, tokenLines, refusedLine, okLine, lineTokens, reported, lineReport, tableSaid, tableReport}
-use Rattle.report.specs.Writes.{Wrote, lineWith, LineReading, readingReport}
-use Rattle.report.proofs.Writes.{wrote-as, wrote-then, wrote-front}
+use Rattle.report.specs.Writes.{lineWith, LineReading, readingReport}
 use Rattle.report.proofs.TokenLines.{ok-line}
 
 -- a refusal's number

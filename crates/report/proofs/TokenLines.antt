@@ -9,11 +9,13 @@ use lib.ListN.{length, take, drop, getD, length-append, take-append-drop}
 use lib.Seq.{getD-drop, length-take-le}
 use Rattle.tokens.specs.Tokens.{Token, tokenBytes}
 use Rattle.tokens.proofs.Counts.{bytes-count}
-use Rattle.report.specs.Text.{decimal, okWord}
+use Rattle.printing.specs.Decimal.{decimal}
+use Rattle.printing.specs.Writes.{Wrote}
+use Rattle.printing.proofs.Writes.{wrote-then, wrote-as}
+use Rattle.printing.proofs.Digits.{length-decimal-byte}
+use Rattle.report.specs.Text.{okWord}
 use Rattle.report.specs.Report.{tokenLine, tokenLines, okLine}
-use Rattle.report.specs.Writes.{Wrote, lineWith}
-use Rattle.report.proofs.Writes.{wrote-then, wrote-as}
-use Rattle.report.proofs.Digits.{length-decimal-byte}
+use Rattle.report.specs.Writes.{lineWith}
 
 abbrev pub token : ℕ → ℕ → ℕ → Token
 token a b c = record { tag = a; offset = b; size = c }

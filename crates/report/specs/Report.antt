@@ -11,7 +11,8 @@ use Rattle.table.specs.Checked.{checked}
 use Rattle.table.specs.Expression.{expOf}
 use Rattle.tokens.specs.Tokens.{Token, tokensFrom}
 use Rattle.matcher.specs.Calls.{readSays}
-use Rattle.report.specs.Text.{decimal, lineWord, okWord, refusedWord, tableWord, failureWord}
+use Rattle.printing.specs.Decimal.{decimal}
+use Rattle.report.specs.Text.{lineWord, okWord, refusedWord, tableWord, failureWord}
 
 -- "Its work area is 65,536 bytes, reading buffer 32,768, token buffer 4,096."
 abbrev pub workLength : ℕ

@@ -1,21 +1,15 @@
--- What the functions that write text at a moving position leave.
+-- What the functions inside are given and write.
 -- Assumes nothing.
-use Prim.Native.Nat.{ℕ, _+_, _≤_, _<_}
-use mathlib.Core.Path.{_≡_}
+use Prim.Native.Nat.{ℕ, _≤_, _<_}
 use mathlib.Core.List.{List, [], _∷_, _++_}
 use lib.ListN.{length}
-use lib.Seq.{sets}
 use Rattle.regex.specs.Values.{flat}
 use Rattle.table.specs.Records.{count}
 use Rattle.table.specs.Faults.{Passes}
 use Rattle.reading.specs.Fitting.{Fits, readingOf}
-use Rattle.report.specs.Text.{decimal, lineWord}
+use Rattle.printing.specs.Decimal.{decimal}
+use Rattle.report.specs.Text.{lineWord}
 use Rattle.report.specs.Report.{okLine, lineTokens}
-
--- the bytes stand in the buffer from a position on, the others are left, and next is the position after them
-pub record Wrote (entry exit : List ℕ) (at next : ℕ) (bytes : List ℕ) : Type 0 where
-  pub moved : next ≡ at + length bytes
-  pub buffer : exit ≡ sets entry at bytes
 
 -- a line's own printed line: its number, a word and a number
 abbrev pub lineWith : ℕ → List ℕ → ℕ → List ℕ

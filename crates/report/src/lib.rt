@@ -6,45 +6,16 @@ ghost use mathlib.Core.List.{List, [], _∷_, _++_};
 ghost use lib.ListN.{length, take, drop};
 ghost use Rattle.table.specs.Answers.{refuses, refusal};
 ghost use Rattle.tokens.specs.Tokens.{Token, tokenBytes};
-ghost use Rattle.report.specs.Text.{decimal, okWord, refusedWord, tableWord};
+ghost use Rattle.printing.specs.Decimal.{decimal};
+ghost use Rattle.printing.specs.Writes.{Wrote};
+ghost use Rattle.report.specs.Text.{okWord, refusedWord, tableWord};
 ghost use Rattle.report.specs.Report.{tokenLine, tokenLines, refusedLine, workLength, readingLength, tokenLength, lineReport, tableReport, failureText};
-ghost use Rattle.report.specs.Writes.{Wrote, lineWith, LineReading, readingReport};
+ghost use Rattle.report.specs.Writes.{lineWith, LineReading, readingReport};
+use printing::put_byte;
+use printing::put_decimal;
+use printing::put_text;
 use table::Answer;
 use table::Refusal;
-
-// Writes a byte at a position and returns the next position.
-fn put_byte(out: &mut [u8], at: usize, b: u8) -> usize
-    requires { ⌜ at < length (now out) ⌝ }
-    ensures { λ r. ⌜ Wrote (now (out .entry)) (now (out .exit)) at r (b ∷ []) ⌝ }
-{
-    out[at] = b;
-    at + 1
-}
-
-// Writes a text at a position and returns the next position.
-fn put_text(out: &mut [u8], at: usize, text: &[u8]) -> usize
-    requires { ⌜ at + length (now text) ≤ length (now out) ⌝ }
-    ensures { λ r. ⌜ Wrote (now (out .entry)) (now (out .exit)) at r (now (text .entry)) ⌝ }
-{
-    let mut i = 0;
-    while i < text.len() {
-        out[at + i] = text[i];
-        i += 1;
-    }
-    at + i
-}
-
-// Writes a number in decimal at a position and returns the next position.
-fn put_decimal(out: &mut [u8], at: usize, n: u64) -> usize
-    requires { ⌜ at + length (decimal n) ≤ length (now out) ⌝ }
-    ensures { λ r. ⌜ Wrote (now (out .entry)) (now (out .exit)) at r (decimal n) ⌝ }
-{
-    if n < 10 {
-        return put_byte(out, at, (48 + n) as u8);
-    }
-    let next = put_decimal(out, at, n / 10);
-    put_byte(out, next, (48 + n % 10) as u8)
-}
 
 // Writes a token's line at a position and returns the next position.
 fn put_token(out: &mut [u8], at: usize, tag: u8, offset: u8, size: u8) -> usize

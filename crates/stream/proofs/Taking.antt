@@ -12,8 +12,8 @@ use Rattle.lines.proofs.Ends.{passed-ended, passed-open, end-ended, end-open}
 use Rattle.lines.proofs.Keeping.{kept-more}
 use Rattle.lines.proofs.Splitting.{ended-few}
 use Rattle.report.specs.Report.{lineReport}
-use Rattle.report.specs.Writes.{Wrote}
-use Rattle.report.proofs.Writes.{wrote-length, wrote-then, wrote-none, wrote-as, wrote-front}
+use Rattle.printing.specs.Writes.{Wrote}
+use Rattle.printing.proofs.Writes.{wrote-length, wrote-then, wrote-none, wrote-as, wrote-front}
 use Rattle.stream.specs.Output.{lastRecord, reports}
 use Rattle.stream.specs.Blocks.{endedReports, lastReport, Took}
 use Rattle.stream.proofs.Reports.{reports-append, kept-report}

@@ -5,7 +5,7 @@ ghost use mathlib.Core.Path.{_≡_};
 ghost use mathlib.Core.List.{_++_};
 ghost use lib.ListN.{length, take, drop};
 ghost use Rattle.report.specs.Report.{lineReport};
-ghost use Rattle.report.specs.Writes.{Wrote};
+ghost use Rattle.printing.specs.Writes.{Wrote};
 ghost use Rattle.stream.specs.Output.{lastRecord};
 ghost use Rattle.stream.specs.Blocks.{Took, lastReport};
 ghost use Rattle.stream.specs.Buffers.{Buffers};

@@ -5,7 +5,7 @@ ghost use Prim.Native.Nat.{_+_, _≤_, _<_};
 ghost use mathlib.Core.Path.{_≡_};
 ghost use lib.ListN.{length};
 ghost use Rattle.stream.specs.Buffers.{Buffers};
-ghost use Rattle.tracecut.specs.Reads.{failedRead};
+use descriptors::Filled;
 use libc::STDERR_FILENO;
 use libc::STDIN_FILENO;
 use libc::STDOUT_FILENO;
@@ -18,88 +18,26 @@ struct State {
     failed: bool,
 }
 
-// Whether a read failed, by its answer. The end of the input is not a failure, and a failure not the end of the input.
-fn is_failure(answer: isize) -> bool
-    ensures { λ r. ⌜ r ≡ failedRead answer ⌝ }
-{
-    answer < 0
-}
-
-// Whether a read or a write that failed is to be tried again: a signal interrupted it, or the descriptor would block, which is waited for.
-fn is_to_be_tried_again() -> bool {
-    let error = os::errno();
-    if error == libc::EINTR {
-        return true;
-    }
-    if error == libc::EAGAIN {
-        sleeper::pause();
-        return true;
-    }
-    false
-}
-
-// One read, which answers as libc's: the bytes read, 0 at the input's end, or -1. A proved loop has to end, so this one counts its turns down,
-// from a number that no run uses up.
-fn read_some(fd: i32, buffer: &mut [u8]) -> isize {
-    let mut turns = u64::MAX;
-    while turns > 0 {
-        let got = libc::read(fd, buffer);
-        if !is_failure(got) {
-            return got;
-        }
-        if !is_to_be_tried_again() {
-            return got;
-        }
-        turns -= 1;
-    }
-    -1
-}
-
-// Writes bytes to standard output, and says whether all were written.
-fn write_whole(bytes: &[u8]) -> bool {
-    let mut done = 0;
-    let mut turns = u64::MAX;
-    while done < bytes.len() {
-        let put = libc::write(STDOUT_FILENO, &bytes[done..]);
-        let n = io::count(put, &bytes[done..]);
-        if n == 0 {
-            if turns == 0 || put == 0 || !is_to_be_tried_again() {
-                return false;
-            }
-            turns -= 1;
-        }
-        done += n;
-    }
-    true
-}
-
 // Prints bytes, or says that writing failed.
 fn print(bytes: &[u8]) -> bool {
-    if write_whole(bytes) {
+    if descriptors::write_whole(STDOUT_FILENO, bytes) {
         return true;
     }
     os::fail(b"tracecut: writing failed");
     false
 }
 
-// Reads a file until it ends or the buffer is full, and returns the number of bytes: 0 where a read fails, whatever came before.
+// Reads rules.tab until it ends or the buffer is full, and returns the number of bytes: 0 where a read fails, whatever came before.
 fn read_file(fd: i32, buffer: &mut [u8]) -> usize
     ensures { λ r. ⌜ r ≤ length (now (buffer .exit)) ⌝ }
 {
-    let mut done = 0;
-    while done < buffer.len() {
-        let got = read_some(fd, &mut buffer[done..]);
-        if is_failure(got) {
+    match descriptors::read_whole(fd, buffer) {
+        Filled::Bytes(n) => n,
+        Filled::Failed => {
             os::fail(b"tracecut: reading rules.tab failed");
-            return 0;
+            0
         }
-        let n = io::count(got, &buffer[done..]);
-        if n == 0 {
-            return done;
-        }
-        done += n;
     }
-    done
 }
 
 // Opens rules.tab, and answers a descriptor, or -1. Where it is not just missing, standard error says why.
@@ -208,8 +146,8 @@ fn run(table: &[u8], out: &mut [u8])
     };
     let mut left: u64 = 18446744073709551614;
     while 65536 < left {
-        let got = read_some(STDIN_FILENO, &mut block);
-        if is_failure(got) {
+        let got = descriptors::read_some(STDIN_FILENO, &mut block);
+        if descriptors::is_failure(got) {
             say_failed(state.ended, out);
             return;
         }

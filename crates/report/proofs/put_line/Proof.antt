@@ -3,8 +3,8 @@ use Prim.Native.Nat.{_+_, _≤_}
 use native.Mathlib.Omega.{arith}
 use borrow.Author.Needs.{needs}
 use lib.ListN.{length}
-use Rattle.report.proofs.Writes.{wrote-length, wrote-5, wrote-room}
-use Rattle.report.proofs.Digits.{length-decimal}
+use Rattle.printing.proofs.Writes.{wrote-length, wrote-5, wrote-room}
+use Rattle.printing.proofs.Digits.{length-decimal}
 use Rattle.report.proofs.put_line.Statement.{statement}
 use Rattle.report.proofs.put_line.Tie as tie
 

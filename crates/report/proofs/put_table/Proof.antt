@@ -1,8 +1,8 @@
 -- `report::put_table` meets its contract: three texts one after another. Assumes nothing.
 use native.Mathlib.Omega.{arith}
 use borrow.Author.Needs.{needs}
-use Rattle.report.proofs.Writes.{wrote-length, wrote-3}
-use Rattle.report.proofs.Digits.{length-decimal}
+use Rattle.printing.proofs.Writes.{wrote-length, wrote-3}
+use Rattle.printing.proofs.Digits.{length-decimal}
 use Rattle.report.proofs.put_table.Statement.{statement}
 use Rattle.report.proofs.put_table.Tie as tie
 

@@ -2,8 +2,8 @@
 use Prim.Native.Nat.{_+_, _≤_}
 use native.Mathlib.Omega.{arith}
 use lib.ListN.{length}
-use Rattle.report.proofs.Writes.{wrote-length, wrote-then, wrote-5, wrote-room}
-use Rattle.report.proofs.Digits.{length-decimal-byte}
+use Rattle.printing.proofs.Writes.{wrote-length, wrote-then, wrote-5, wrote-room}
+use Rattle.printing.proofs.Digits.{length-decimal-byte}
 use Rattle.report.proofs.put_token.Statement.{statement}
 use Rattle.report.proofs.put_token.Tie as tie
 

@@ -3,8 +3,8 @@
 use Prim.Native.Nat.{_+_, _*_, _-_, _≤_}
 use native.Mathlib.Omega.{arith}
 use Rattle.report.specs.Report.{tokenLines}
-use Rattle.report.specs.Writes.{Wrote}
-use Rattle.report.proofs.Writes.{wrote-length, wrote-none}
+use Rattle.printing.specs.Writes.{Wrote}
+use Rattle.printing.proofs.Writes.{wrote-length, wrote-none}
 use Rattle.report.proofs.TokenLines.{tokensOf, token-room, lines-more, lines-all}
 use Rattle.report.proofs.put_tokens.Statement.{statement}
 use Rattle.report.proofs.put_tokens.Tie as tie

@@ -1,9 +1,9 @@
 -- `report::report_failure` meets its contract: two texts one after another. Assumes nothing.
 use native.Mathlib.Omega.{arith}
 use mathlib.Core.Path.{refl}
-use Rattle.report.proofs.Writes.{wrote-length, wrote-then}
+use Rattle.printing.proofs.Writes.{wrote-length, wrote-then}
 use Rattle.report.proofs.Reports.{printed}
-use Rattle.report.proofs.Digits.{length-decimal}
+use Rattle.printing.proofs.Digits.{length-decimal}
 use borrow.Author.Needs.{needs}
 use Rattle.report.proofs.report_failure.Statement.{statement}
 use Rattle.report.proofs.report_failure.Tie as tie

@@ -1,7 +1,7 @@
 -- `report::report_reading` meets its contract: the tokens' lines after the line's own. Tokens does not refuse the reading. Assumes nothing.
 use native.Mathlib.Omega.{arith}
 use borrow.Author.Needs.{needs}
-use Rattle.report.proofs.Writes.{wrote-length}
+use Rattle.printing.proofs.Writes.{wrote-length}
 use Rattle.report.proofs.Reports.{Tokenized, tokenized, reading-listed, not-refused}
 use Rattle.report.proofs.report_reading.Statement.{statement}
 use Rattle.report.proofs.report_reading.Tie as tie

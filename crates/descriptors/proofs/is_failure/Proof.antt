@@ -1,4 +1,4 @@
--- `tracecut::is_failure` meets its contract: the numbers below 0. Assumes nothing.
+-- `descriptors::is_failure` meets its contract: the numbers below 0. Assumes nothing.
 use mathlib.Core.Path.{_≡_, refl, _∙_, ap}
 use borrow.Author.Tests.{le-ltb}
 use native.Mathlib.Omega.{arith}
@@ -6,9 +6,9 @@ use lib.IntN.{ℤ, pos, negsuc}
 use lib.Signed.{ltZ}
 use mir.Syntax.{w64}
 use mir.ValLaws.{toZ-ofZ}
-use Rattle.tracecut.specs.Reads.{failedRead}
-use Rattle.tracecut.proofs.is_failure.Statement.{statement}
-use Rattle.tracecut.proofs.is_failure.Tie as tie
+use Rattle.descriptors.specs.Reads.{failedRead}
+use Rattle.descriptors.proofs.is_failure.Statement.{statement}
+use Rattle.descriptors.proofs.is_failure.Tie as tie
 
 below-0 : (z : ℤ) → ltZ z (pos 0) ≡ failedRead z
 below-0 (pos n) = le-ltb n 0 (omega arith)

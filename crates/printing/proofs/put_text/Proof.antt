@@ -1,12 +1,12 @@
--- `report::put_text` meets its contract. The loop's invariant: the first i bytes of the text are written; the measure is what is left of it. Assumes nothing.
+-- `printing::put_text` meets its contract. The loop's invariant: the first i bytes of the text are written; the measure is what is left of it. Assumes nothing.
 use Prim.Native.Nat.{_+_, _-_, _≤_}
 use native.Mathlib.Omega.{arith}
 use mathlib.Core.Path.{refl}
 use lib.ListN.{length, take}
-use Rattle.report.specs.Writes.{Wrote}
-use Rattle.report.proofs.Writes.{wrote-length, wrote-more, wrote-all, wrote-start}
-use Rattle.report.proofs.put_text.Statement.{statement}
-use Rattle.report.proofs.put_text.Tie as tie
+use Rattle.printing.specs.Writes.{Wrote}
+use Rattle.printing.proofs.Writes.{wrote-length, wrote-more, wrote-all, wrote-start}
+use Rattle.printing.proofs.put_text.Statement.{statement}
+use Rattle.printing.proofs.put_text.Tie as tie
 
 abbrev Inv-loop : tie.InvT-loop
 Inv-loop out₀ at text i₀ out i = (i ≤ length text) × Wrote out₀ out at (at + i) (take i text)

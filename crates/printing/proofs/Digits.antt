@@ -1,14 +1,14 @@
 -- Decimal digits: how many there are, and the digits of a number from those of its tenth.
 -- Assumes nothing.
 use Prim.Native.Nat.{ℕ, zero, suc, _+_, _*_, _/_, _%_, _≤_, _<_}
-use mathlib.Core.Path.{_≡_, refl, sym, _∙_, ap}
+use mathlib.Core.Path.{_≡_, refl, _∙_, ap}
 use mathlib.Core.Bool.{Bool, true, false}
 use mathlib.Core.List.{List, [], _∷_, _++_}
 use native.Mathlib.Omega.{arith}
-use borrow.Author.Tests.{ltb-true, ltb-false, lt-ltb, le-ltb}
+use borrow.Author.Tests.{ltb-false, lt-ltb, le-ltb}
 use lib.Dec.{ltb}
 use lib.ListN.{length, length-append}
-use Rattle.report.specs.Text.{pickText, digitsBy, decimal}
+use Rattle.printing.specs.Decimal.{pickText, digitsBy, decimal}
 
 -- 10 to the power d + 1: the numbers below have at most d + 1 digits
 abbrev tens : ℕ → ℕ

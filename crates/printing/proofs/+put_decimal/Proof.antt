@@ -1,17 +1,17 @@
--- `report::put_decimal` meets its contract: the digits of the tenth, then the last digit. The number falls at each call. Assumes nothing.
+-- `printing::put_decimal` meets its contract: the digits of the tenth, then the last digit. The number falls at each call. Assumes nothing.
 use Prim.Native.Nat.{ℕ, _<_}
 use native.Mathlib.Omega.{arith}
 use mathlib.Core.Path.{sym}
 use borrow.Fn.Kinds.{In}
 use borrow.Fn.PlainCycle.{Measures, is, falls, and}
-use Rattle.report.proofs.Writes.{wrote-length, wrote-then, wrote-as}
-use Rattle.report.proofs.Digits.{decimal-digit, decimal-digits, length-one, length-more}
-use Rattle.report.proofs.put_decimal.Reads as put-decimal
-use Rattle.report.proofs.put_decimal.Kinds as put-decimal-kinds
-use Rattle.report.proofs.+put_decimal.Lts-put_decimal as put-decimal-lts
-use Rattle.report.proofs.put_byte.Reads as put-byte-reads
-use Rattle.report.proofs.+put_decimal.{statement}
-use Rattle.report.proofs.+put_decimal.Tie.{close}
+use Rattle.printing.proofs.Writes.{wrote-length, wrote-then, wrote-as}
+use Rattle.printing.proofs.Digits.{decimal-digit, decimal-digits, length-one, length-more}
+use Rattle.printing.proofs.put_decimal.Reads as put-decimal
+use Rattle.printing.proofs.put_decimal.Kinds as put-decimal-kinds
+use Rattle.printing.proofs.+put_decimal.Lts-put_decimal as put-decimal-lts
+use Rattle.printing.proofs.put_byte.Reads as put-byte-reads
+use Rattle.printing.proofs.+put_decimal.{statement}
+use Rattle.printing.proofs.+put_decimal.Tie.{close}
 
 abbrev μ-put-decimal : Measures 1 put-decimal-kinds.ps ℕ
 μ-put-decimal κs a = a .1 .1 .0

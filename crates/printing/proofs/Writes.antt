@@ -8,7 +8,7 @@ use native.Mathlib.Numerals.{add-one}
 use lib.ListN.{length, take, drop, getD, set, length-append}
 use lib.Seq.{sets, length-sets, take-suc, take-length}
 use Rattle.reading.proofs.Writing.{sets-more, sets-front}
-use Rattle.report.specs.Writes.{Wrote}
+use Rattle.printing.specs.Writes.{Wrote}
 
 module _ {a b : List ℕ} {at next : ℕ} {xs : List ℕ} (w : Wrote a b at next xs) where
   pub wrote-length : length b ≡ length a

@@ -1,10 +1,9 @@
--- `tracecut::read_some` meets its contract. Assumes nothing.
+-- `descriptors::read_some` meets its contract. Assumes nothing.
 use borrow.Author.Needs.{needs}
-use Prim.Native.Nat.{_-_}
 use mathlib.Core.Path.{_≡_}
 use lib.ListN.{length}
-use Rattle.tracecut.proofs.read_some.Statement.{statement}
-use Rattle.tracecut.proofs.read_some.Tie as tie
+use Rattle.descriptors.proofs.read_some.Statement.{statement}
+use Rattle.descriptors.proofs.read_some.Tie as tie
 
 abbrev Inv-loop : tie.InvT-loop
 Inv-loop fd buffer₀ turns₀ buffer turns = length buffer ≡ length buffer₀

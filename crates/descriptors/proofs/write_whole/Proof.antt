@@ -1,17 +1,17 @@
--- `tracecut::write_whole` meets its contract. Assumes nothing.
+-- `descriptors::write_whole` meets its contract. Assumes nothing.
 use mathlib.Core.Logic.{⊎-elim}
 use borrow.Author.Needs.{needs}
 use Prim.Native.Nat.{_+_, _-_, _≤_}
 use native.Mathlib.Omega.{arith}
 use lib.ListN.{length}
-use Rattle.tracecut.proofs.write_whole.Statement.{statement}
-use Rattle.tracecut.proofs.write_whole.Tie as tie
+use Rattle.descriptors.proofs.write_whole.Statement.{statement}
+use Rattle.descriptors.proofs.write_whole.Tie as tie
 
 abbrev Inv-loop : tie.InvT-loop
-Inv-loop bytes done₀ turns₀ done turns = done ≤ length bytes
+Inv-loop fd bytes done₀ turns₀ done turns = done ≤ length bytes
 
 abbrev μ-loop : tie.MeasureT-loop
-μ-loop bytes done₀ turns₀ done turns = (length bytes - done) + turns
+μ-loop fd bytes done₀ turns₀ done turns = (length bytes - done) + turns
 
 loop-holds : tie.Need-loop-holds Inv-loop μ-loop
 loop-holds c = search needs

@@ -1,0 +1,3 @@
+-- Numbers as bytes, and what the functions leave.
+pub mod Decimal
+pub mod Writes

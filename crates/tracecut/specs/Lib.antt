@@ -1,2 +1,0 @@
--- What a read of the program answers.
-pub mod Reads
