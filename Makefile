@@ -1,4 +1,4 @@
-.PHONY: all lib shared install uninstall install-files test outside outside-tests lacks tools example edges header builder program demo \
+.PHONY: all lib shared install uninstall install-files test outside outside-tests lacks tools example edges header program rules guide demo \
         installed loaded manual pages referee-own referee-gate referee-stack referee-memory doubt soak bench
 
 SHELL = bash
@@ -19,10 +19,10 @@ VERSION := $(MAJOR).$(call VERSION_PART,MINOR).$(call VERSION_PART,PATCH)
 
 LIB = target/staticlib/libtrace.a
 SHARED = target/shared/libtrace.so.$(VERSION)
-PROGRAM = target/bin/tracecut
+PROGRAMS = target/bin/tracecut target/bin/tracerules
 
-# What is delivered: the library for C, with include/trace.h, as an archive and as a shared library, and the program.
-all: $(LIB) $(SHARED) $(PROGRAM)
+# What is delivered: the library for C, with include/trace.h, as an archive and as a shared library, and the programs.
+all: $(LIB) $(SHARED) $(PROGRAMS)
 
 lib: $(LIB)
 
@@ -36,8 +36,8 @@ $(SHARED): $(LIB) packaging/libtrace.map
 	@$(CC) -shared -Wl,-soname,libtrace.so.$(MAJOR) -Wl,--version-script=packaging/libtrace.map -Wl,-z,defs \
 	    -Wl,--whole-archive $(LIB) -Wl,--no-whole-archive -o $@
 
-$(PROGRAM): $(SOURCES)
-	@rt check tracecut 2>&1 | bash tests/quiet.sh
+$(PROGRAMS): target/bin/%: $(SOURCES)
+	@rt check $* 2>&1 | bash tests/quiet.sh
 	@touch $@
 
 # make install PREFIX=/usr/local DESTDIR=: the files below, under PREFIX, or for a package under DESTDIR and PREFIX.
@@ -45,20 +45,22 @@ PREFIX = /usr/local
 ROOT = $(DESTDIR)$(PREFIX)
 MANUAL = $(ROOT)/share/man
 FUNCTIONS := $(shell grep -oE '\btrace_[a-z_]+' include/trace.h | sort -u)
-INSTALL_FILES = bin/tracecut include/trace.h lib/libtrace.a lib/libtrace.so lib/libtrace.so.$(MAJOR) lib/libtrace.so.$(VERSION) \
-    lib/pkgconfig/trace.pc share/doc/trace/FORMATS.md share/man/man1/tracecut.1 share/man/man3/libtrace.3 $(FUNCTIONS:%=share/man/man3/%.3)
+COMMANDS = $(notdir $(PROGRAMS))
+DOCUMENTS = FORMATS.md GUIDE.md
+INSTALL_FILES = $(COMMANDS:%=bin/%) include/trace.h lib/libtrace.a lib/libtrace.so lib/libtrace.so.$(MAJOR) lib/libtrace.so.$(VERSION) \
+    lib/pkgconfig/trace.pc $(DOCUMENTS:%=share/doc/trace/%) $(COMMANDS:%=share/man/man1/%.1) share/man/man3/libtrace.3 $(FUNCTIONS:%=share/man/man3/%.3)
 FILLED = sed -e 's,@VERSION@,$(VERSION),g' -e 's,@PREFIX@,$(PREFIX),g'
 
 install: all
 	@install -d $(sort $(dir $(INSTALL_FILES:%=$(ROOT)/%)))
-	@install -m 755 $(PROGRAM) $(ROOT)/bin
+	@install -m 755 $(PROGRAMS) $(ROOT)/bin
 	@install -m 644 include/trace.h $(ROOT)/include
 	@install -m 644 $(LIB) $(SHARED) $(ROOT)/lib
-	@install -m 644 docs/FORMATS.md $(ROOT)/share/doc/trace
+	@install -m 644 $(DOCUMENTS:%=docs/%) $(ROOT)/share/doc/trace
 	@ln -sf libtrace.so.$(VERSION) $(ROOT)/lib/libtrace.so.$(MAJOR)
 	@ln -sf libtrace.so.$(MAJOR) $(ROOT)/lib/libtrace.so
 	@$(FILLED) packaging/trace.pc.in >$(ROOT)/lib/pkgconfig/trace.pc
-	@$(FILLED) man/tracecut.1.in >$(MANUAL)/man1/tracecut.1
+	@for name in $(COMMANDS); do $(FILLED) man/$$name.1.in >$(MANUAL)/man1/$$name.1 || exit 1; done
 	@sed 's,\\,\\e,g' examples/first.c | $(FILLED) -e '/^@EXAMPLE@$$/{r /dev/stdin' -e 'd}' man/libtrace.3.in >$(MANUAL)/man3/libtrace.3
 	@for name in $(FUNCTIONS); do echo '.so man3/libtrace.3' >$(MANUAL)/man3/$$name.3; done
 
@@ -74,7 +76,7 @@ test:
 
 # The tests outside Rattle, in their order. The gate counts each, and leaves out one that needs a command which is not there and cannot be
 # installed.
-OUTSIDE = lib example edges header builder program demo installed loaded manual pages referee-own referee-gate referee-stack referee-memory
+OUTSIDE = lib example edges header program rules guide demo installed loaded manual pages referee-own referee-gate referee-stack referee-memory
 NEEDS_header = $(CXX)
 NEEDS_installed = pkg-config
 NEEDS_manual = man
@@ -96,14 +98,14 @@ tools:
 $(BUILD):
 	@mkdir -p $@
 
-# Cuts a sample trace with a sample table and shows the tokens.
+# Cuts a sample trace by a sample rule and shows the tokens.
 demo:
 	@bash tests/demo.sh
 
-# The example commissioning tool in C, compiled without a warning, and what it must print.
+# The examples in C, compiled without a warning, and what they must print.
 example: $(LIB) | $(BUILD)
-	@$(CC) -std=c99 $(CFLAGS) examples/commission.c $(LIB) -o $(BUILD)/commission
-	@bash tests/example.sh $(BUILD)/commission
+	@for name in commission rules; do $(CC) -std=c99 $(CFLAGS) examples/$$name.c $(LIB) -o $(BUILD)/$$name || exit 1; done
+	@bash tests/example.sh $(BUILD)/commission $(BUILD)/rules
 
 # Every refusal at its edge, through the calls for C.
 edges: $(LIB) | $(BUILD)
@@ -119,15 +121,19 @@ header: $(LIB) | $(BUILD)
 	    $(CXX) -std=$$form $(WARNINGS) -fsyntax-only -x c++ include/trace.h && \
 	    $(CXX) -std=$$form $(CFLAGS) -x c++ tests/header.c -x none $(LIB) -o $(BUILD)/header && $(BUILD)/header || exit 1; done
 
-# The demo's table builder.
-builder:
-	@bash tests/builder.sh
+# The programs on hard inputs: tracecut, then tracerules.
+$(BUILD)/nonblock: tests/nonblock.c | $(BUILD)
+	@$(CC) $(CFLAGS) $< -o $@
 
-# The program on hard inputs.
-program: $(PROGRAM) | $(BUILD)
-	@$(CC) $(CFLAGS) tests/nonblock.c -o $(BUILD)/nonblock
-	@$(CC) $(CFLAGS) -shared -fPIC tests/faults.c -o $(BUILD)/faults.so -ldl
-	@bash tests/program.sh
+$(BUILD)/faults.so: tests/faults.c | $(BUILD)
+	@$(CC) $(CFLAGS) -shared -fPIC $< -o $@ -ldl
+
+program rules: %: $(PROGRAMS) $(BUILD)/nonblock $(BUILD)/faults.so
+	@bash tests/$@.sh
+
+# Every example of docs/GUIDE.md.
+guide: $(PROGRAMS)
+	@bash tests/guide.sh
 
 # An installation in an empty folder, used by pkg-config alone. The tests after it use one too.
 INSTALLED = $(CURDIR)/$(BUILD)/installed
@@ -179,6 +185,6 @@ SEED = 7
 soak: lib $(REFEREE)
 	@$(REFEREE) soak $(SECONDS) $(SEED)
 
-# Our read and tokens against other matchers: microseconds and ratios, in one run.
+# Our read and tokens against other matchers, and our compile against theirs: microseconds and ratios, in one run.
 bench: lib
 	@bash bench/run.sh

@@ -1,8 +1,9 @@
 #!/bin/bash
-# Times our read + tokens against regular expression engines with capture groups. Run make lib first (make bench does).
+# Times our read + tokens against regular expression engines with capture groups, and our compile against the regcomp of those that have one.
+# Run make lib first (make bench does).
 #   bash bench/run.sh             prints a table
 #   bash bench/run.sh --markdown  prints the text of docs/BENCH.md
-# With all peers it takes about 4 minutes. BENCH_MS: milliseconds of one repeat (200). BENCH_CUT: seconds until a peer is cut (10).
+# With all peers it takes about 6 minutes. BENCH_MS: milliseconds of one repeat (200). BENCH_CUT: seconds until a peer is cut (10).
 # Every peer is a process of its own: engines replace one another's symbols when they are linked together.
 set -u
 cd "$(dirname "$0")/.." || exit 1
@@ -24,13 +25,17 @@ version() { dpkg-query -W -f '${Version}' "$1" 2>/dev/null || echo "version not 
 [ -f $LIB ] || fail "$LIB is missing: make lib"
 mkdir -p $OUT/hs
 $CC $FLAGS -c bench/loads.c -o $OUT/loads.o && $CC $FLAGS bench/list.c $OUT/loads.o -o $OUT/list &&
-    $CC $FLAGS bench/ours.c $OUT/loads.o $LIB -o $OUT/ours && $CC $FLAGS bench/posix.c $OUT/loads.o -o $OUT/glibc || fail "build"
+    $CC $FLAGS bench/ours.c $OUT/loads.o $LIB -o $OUT/ours && $CC $FLAGS bench/posix.c $OUT/loads.o -o $OUT/glibc &&
+    $CC $FLAGS bench/compile.c $LIB -o $OUT/compile && $CC $FLAGS -DUSE_GLIBC bench/compile.c -o $OUT/compile-glibc || fail "build"
 peers=(glibc)
+compilers=(glibc)
 found=("glibc: $(getconf GNU_LIBC_VERSION)")
 missing=()
 if header "$CC" tre/tre.h; then
-    $CC $FLAGS -DUSE_TRE bench/posix.c $OUT/loads.o -ltre -o $OUT/TRE || fail "build with TRE"
+    $CC $FLAGS -DUSE_TRE bench/posix.c $OUT/loads.o -ltre -o $OUT/TRE &&
+        $CC $FLAGS -DUSE_TRE bench/compile.c -ltre -o $OUT/compile-TRE || fail "build with TRE"
     peers+=(TRE)
+    compilers+=(TRE)
     found+=("TRE: libtre-dev $(version libtre-dev)")
 else
     missing+=("TRE: install libtre-dev")
@@ -51,7 +56,7 @@ else
     missing+=("tdfa (Haskell's regex-tdfa): install ghc and libghc-regex-tdfa-dev")
 fi
 
-# run PEER LOAD: cut after CUT seconds, or when it takes over 4 GiB (regex-tdfa: 2 GiB).
+# run PROGRAM LOAD: cut after CUT seconds, or when it takes over 4 GiB (regex-tdfa: 2 GiB).
 run() {
     case $1 in
     tdfa) $OUT/list "$2" | timeout -k 1 "$CUT" $OUT/tdfa "$MS" ;;
@@ -67,13 +72,28 @@ ratio() {
         printf "%.*f", digits, r }'
 }
 
-# One row of the table: the first cell to the left, the others to the right, as wide as in the head.
-head=("work load" bytes records "ours µs" spread "clear µs")
-wide=(28 5 7 8 7 8)
-for p in "${peers[@]}"; do
-    head+=("$p µs (ratio)")
-    wide+=(18)
-done
+# What the peers answer to load n, by programs with this prefix to their names: a cell for each.
+ask() {
+    local p answer
+    cells=()
+    for p in "${@:3}"; do
+        answer=$(run "$1$p" "$2")
+        case $? in
+        0) cells+=("$answer") ;;
+        124 | 137) cells+=(cut) cut=$((cut + 1)) ;;
+        *) cells+=(failed) cut=$((cut + 1)) ;;
+        esac
+    done
+}
+
+# Our time of two, the spread in percent, and the better one of the second numbers.
+better() {
+    printf '%s\n' "${1%%$'\n'*} ${2%%$'\n'*}" | awk '{
+        second = NF / 2 + 1; low = $1 < $second ? $1 : $second; high = $1 < $second ? $second : $1
+        print low, 100 * (high / low - 1), NF == 2 ? 0 : $2 < $4 ? $2 : $4 }'
+}
+
+# One row of a table: the first cell to the left, the others to the right, as wide as in the head.
 row() {
     local i=0 cell gap text=
     for cell in "$@"; do
@@ -87,6 +107,18 @@ row() {
         i=$((i + 1))
     done
     echo "${MARKDOWN:+| }$text${MARKDOWN:+ |}"
+}
+
+# The head of a table: our columns are there, and each peer adds one.
+heading() {
+    local p line='|---|' i
+    for p in "$@"; do
+        head+=("$p µs (ratio)")
+        wide+=(18)
+    done
+    row "${head[@]}"
+    for ((i = 1; i < ${#head[@]}; i++)); do line+='---:|'; done
+    [ -z "$MARKDOWN" ] || echo "$line"
 }
 
 peer_lists() {
@@ -104,9 +136,9 @@ if [ "$MARKDOWN" ]; then
     cat <<END
 # Benchmark
 
-Our read + tokens against what a user would pick instead: regular expression engines with capture groups, one process for each. To
-repeat it: \`make bench\` prints the table; \`bash bench/run.sh --markdown >docs/BENCH.md\` writes this page. glibc is always there; the
-Debian packages libtre-dev, libre2-dev, and ghc with libghc-regex-tdfa-dev bring the others.
+Our read + tokens against what a user would pick instead: regular expression engines with capture groups, one process for each. And below
+our compile against the engines' own. To repeat it: \`make bench\` prints the tables; \`bash bench/run.sh --markdown >docs/BENCH.md\` writes
+this page. glibc is always there; the Debian packages libtre-dev, libre2-dev, and ghc with libghc-regex-tdfa-dev bring the others.
 
 - Each work load is one expression tree in \`bench/loads.c\`, written out as our table and as an anchored POSIX expression (for RE2 with
   capture groups for the tokens only). A token is a capture group that is not empty. Inside a star a group keeps the last
@@ -130,29 +162,16 @@ else
     echo
 fi
 
-row "${head[@]}"
-if [ "$MARKDOWN" ]; then
-    line='|---|'
-    for ((i = 1; i < ${#head[@]}; i++)); do line+='---:|'; done
-    echo "$line"
-fi
+head=("work load" bytes records "ours µs" spread "clear µs")
+wide=(28 5 7 8 7 8)
+heading "${peers[@]}"
 worst=0 worst_name= different=0 cut=0
 while read -r n bytes records name; do
     one=$($OUT/ours "$n" "$MS") || fail "load $n"
-    cells=()
-    for p in "${peers[@]}"; do
-        answer=$(run "$p" "$n")
-        case $? in
-        0) cells+=("$answer") ;;
-        124 | 137) cells+=(cut) cut=$((cut + 1)) ;;
-        *) cells+=(failed) cut=$((cut + 1)) ;;
-        esac
-    done
+    ask "" "$n" "${peers[@]}"
     two=$($OUT/ours "$n" "$MS") || fail "load $n"
     spans=${one#*$'\n'}
-    read -r ours spread clear < <(printf '%s\n' "${one%%$'\n'*} ${two%%$'\n'*}" | awk '{
-        low = $1 < $3 ? $1 : $3; high = $1 < $3 ? $3 : $1
-        print low, 100 * (high / low - 1), $2 < $4 ? $2 : $4 }')
+    read -r ours spread clear < <(better "$one" "$two")
     for i in "${!cells[@]}"; do
         answer=${cells[i]}
         [ "$answer" = cut ] || [ "$answer" = failed ] && continue
@@ -175,6 +194,39 @@ if [ "$MARKDOWN" ]; then
     echo '```'
     for n in 0 1 2; do $OUT/list $n | head -n 2; done
     echo '```'
+    cat <<END
+
+## Compiling
+
+Our compile against the peers' \`regcomp\` with \`regfree\`, of the same rule without its tags; each tagged part is in parentheses. The times are
+taken as above. ns a byte: our time through the rule's bytes, which must not grow with them. A rule of over 255 records is refused by 16
+after its last byte: it is the walk that is timed.
+
+END
 else
     echo "Ratio: the peer's time through ours; above 1 we are faster. ≠: other spans than ours. Cut after $CUT s."
+    echo
+    echo "Compiling, against regcomp with regfree. A rule of over 255 records is refused by 16 after its last byte: it is the walk that is timed."
+    echo
 fi
+
+head=(rule bytes records "ours µs" spread "ns a byte")
+wide=(28 5 8 8 7 9)
+heading "${compilers[@]}"
+growth=
+while read -r n bytes name; do
+    one=$($OUT/compile "$n" "$MS") || fail "rule $n"
+    ask compile- "$n" "${compilers[@]}"
+    two=$($OUT/compile "$n" "$MS") || fail "rule $n"
+    read -r ours spread _ < <(better "$one" "$two")
+    each=$(awk -v x="$ours" -v n="$bytes" 'BEGIN { print 1000 * x / n }')
+    for i in "${!cells[@]}"; do
+        [ "${cells[i]}" = cut ] || [ "${cells[i]}" = failed ] || cells[i]="$(us "${cells[i]}") ($(ratio "${cells[i]}" "$ours"))"
+    done
+    [ "$bytes" -eq 64 ] && first=$each
+    [ "$bytes" -eq 4096 ] && growth+="${growth:+, }$(ratio "$each" "$first") ($name)"
+    [ "$MARKDOWN" ] && [[ $name == *'|'* ]] && name="\`${name//|/\\|}\`"
+    row "$name" "$bytes" "${one#*$'\n'}" "$(us "$ours")" "$(printf '%.1f %%' "$spread")" "$(us "$each")" "${cells[@]}"
+done < <($OUT/compile)
+echo
+echo "The time a byte at 4,096 bytes through that at 64: $growth."

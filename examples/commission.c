@@ -4,7 +4,8 @@
  *     cc commission.c $(pkg-config --cflags --libs trace) -o commission
  *     ./commission <trace.txt
  *
- * It uses all five calls. Exit status: 0 if every line was read, 1 if one was refused, 2 if the tool itself could not go on.
+ * It uses every call but trace_compile, which rules.c shows. Exit status: 0 if every line was read, 1 if one was refused, 2 if the tool itself
+ * could not go on.
  */
 #define _POSIX_C_SOURCE 200809L /* getline */
 #include <stdio.h>

@@ -1,15 +1,16 @@
 /*
- * Trace line reader: cuts a line into named tokens by a table of regular expressions, by the POSIX rule.
+ * Trace line reader: cuts a line into named tokens by a table of regular expressions, by the POSIX rule. The table is written by hand, or made
+ * from a text by trace_compile.
  *
  * Every call returns one 64-bit number: its result, or a refusal's number times 2^32 plus the refusal's detail. Take it apart with
  * trace_is_refused, trace_refusal and trace_detail. A result is always below 2^32.
  *
  * What the caller owes: a pointer with a length above 0 points to that many bytes (one with length 0 may be null, or any address), and a
- * buffer that a call writes to (work, out) overlaps no other argument. Nothing else: every table, start number, line, reading and length
- * is taken, and the call comes to an end with its result or a refusal. The calls keep no state and allocate nothing; several threads may
+ * buffer that a call writes to (work, out) overlaps no other argument. Nothing else: every text, table, start number, line, reading and
+ * length is taken, and the call comes to an end with its result or a refusal. The calls keep no state and allocate nothing; several threads may
  * call at once on buffers of their own. A call needs less than 1 MiB of stack.
  *
- * The functions defined here are in no library: they are compiled into the caller, C99 or C++. The five calls are in libtrace.a and
+ * The functions defined here are in no library: they are compiled into the caller, C99 or C++. The six calls are in libtrace.a and
  * libtrace.so:
  *     cc tool.c $(pkg-config --cflags --libs trace)
  *
@@ -26,9 +27,9 @@
 extern "C" {
 #endif
 
-/* The version, as numbers and as text ("2.0.0"). Another major number says that a format or a call's result has changed. */
+/* The version, as numbers and as text ("2.1.0"). Another major number says that a format or a call's result has changed. */
 #define TRACE_VERSION_MAJOR 2
-#define TRACE_VERSION_MINOR 0
+#define TRACE_VERSION_MINOR 1
 #define TRACE_VERSION_PATCH 0
 #define TRACE_TEXT_OF(macro) TRACE_TEXT(macro)
 #define TRACE_TEXT(word) #word
@@ -37,6 +38,8 @@ extern "C" {
 /* Limits, and the bytes of one record of a table, one record of a reading, and one token. */
 #define TRACE_MAX_RECORDS 255     /* records of a table */
 #define TRACE_MAX_LINE 255        /* bytes of a line */
+#define TRACE_MAX_TEXT 4096       /* bytes of a text for trace_compile */
+#define TRACE_MAX_TABLE 1020      /* bytes of a table; a buffer of these is always long enough for trace_compile */
 #define TRACE_TABLE_RECORD 4      /* kind, a, b, tag */
 #define TRACE_READING_RECORD 2    /* kind, argument */
 #define TRACE_TOKEN 3             /* tag, offset in the line, length */
@@ -83,6 +86,9 @@ extern "C" {
 #define TRACE_REFUSED_UNFIT 12    /* the bytes are no reading of the start record */
 #define TRACE_REFUSED_LONG 13     /* the reading spells over 255 bytes */
 #define TRACE_REFUSED_DIFFER 14   /* the two readings spell different lines */
+/* The text's. */
+#define TRACE_REFUSED_TEXT 15     /* text outside the notation, or over 4,096 bytes */
+#define TRACE_REFUSED_RECORDS 16  /* the text's table has over 255 records */
 
 /* An answer taken apart. */
 static inline int trace_is_refused(uint64_t answer) { return (answer >> 32) != 0; }
@@ -108,6 +114,8 @@ static inline const char *trace_refusal_text(uint32_t refusal)
     case TRACE_REFUSED_UNFIT: return "the bytes are no reading of the start record";
     case TRACE_REFUSED_LONG: return "the reading spells over 255 bytes";
     case TRACE_REFUSED_DIFFER: return "the two readings spell different lines";
+    case TRACE_REFUSED_TEXT: return "the text is outside the notation, or over 4,096 bytes long";
+    case TRACE_REFUSED_RECORDS: return "the text's table has over 255 records";
     default: return "no refusal has this number";
     }
 }
@@ -160,6 +168,18 @@ uint64_t trace_compare(const uint8_t *table, size_t table_len, uint64_t start, c
  */
 uint64_t trace_tokens(const uint8_t *table, size_t table_len, uint64_t start, const uint8_t *reading, size_t reading_len, uint8_t *out,
                       size_t out_len);
+
+/*
+ * Makes the table of a text: writes it to the front of out and leaves the later bytes. It passes trace_check, and its last record is the text's
+ * start record. Result: the table's number of records, 4 bytes each. Refusals, in this order: 15, 16, 11; a refusal leaves out as it was.
+ *
+ * A byte stands for itself, as a Range, unless it is one of | * ( ) [ ] \ #; behind a backslash every byte does. [p-q] is a Range, with any
+ * bytes p and q, p not above q, and without escapes. () is Empty, and parentheses group. Each of these is an item. An item with * behind it
+ * is an item, the Star; and so is an item with a tag, # and exactly three digits, 001 to 255, unless it has one already. Items side by side
+ * are Seq, and | between such rows is Or; both group to the left. Neither side of | may be missing, nor the whole text. So [0-9]*#001C is
+ * digits, token 1, and then the letter C.
+ */
+uint64_t trace_compile(const uint8_t *text, size_t text_len, uint8_t *out, size_t out_len);
 
 #ifdef __cplusplus
 }

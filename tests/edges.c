@@ -1,6 +1,6 @@
 /*
- * Every refusal of Read, Spell, Compare and Tokens at its edge, with the answers that document 01 states; buffers are compared byte for byte.
- * Other at its bounds. Empty tagged parts, which are no tokens. And null pointers with length 0, in all five calls.
+ * Every refusal of Read, Spell, Compare, Tokens and Compile at its edge, with the answers that documents 01 and 02 state; buffers are compared
+ * byte for byte. Other at its bounds. Empty tagged parts, which are no tokens. And null pointers with length 0, in all six calls.
  * Prints the number of answers, or the first one that is wrong.
  */
 #include <stdio.h>
@@ -74,6 +74,46 @@ static void read(const char *name, Bytes table, uint64_t start, Bytes line, size
         }
 }
 
+/* A table that is written must pass the check with as many records. */
+static void compile(const char *name, Bytes text, size_t room, uint64_t want, Bytes front)
+{
+    uint8_t out[2048];
+    memset(out, 0xee, sizeof out);
+    expect(name, trace_compile(text.at, text.length, out, room), want);
+    expect_buffer(name, out, sizeof out, front);
+    if (!trace_is_refused(want))
+        expect(name, trace_check(out, TRACE_TABLE_RECORD * want), want);
+}
+
+/* A text and its table: buffers of exactly its length, one byte longer, as long as any, one byte shorter, and of none. */
+static void table_of(Bytes text, Bytes table)
+{
+    char name[32];
+    uint64_t records = table.length / TRACE_TABLE_RECORD;
+    snprintf(name, sizeof name, "%.*s", (int)text.length, (const char *)text.at);
+    compile(name, text, table.length, records, table);
+    compile(name, text, table.length + 1, records, table);
+    compile(name, text, TRACE_MAX_TABLE, records, table);
+    compile(name, text, table.length - 1, REFUSED(11, table.length), empty);
+    compile(name, text, 0, REFUSED(11, table.length), empty);
+    expect(name, trace_compile(text.at, text.length, NULL, 0), REFUSED(11, table.length));
+}
+
+#define TEXT(string) ((Bytes){(const uint8_t *)(string), sizeof(string) - 1})
+
+/* Texts outside the notation, parted by blanks. */
+static void outside(const char *texts)
+{
+    for (const char *at = texts; *at; at += *at == ' ') {
+        Bytes text = {(const uint8_t *)at, strcspn(at, " ")};
+        char name[32];
+        snprintf(name, sizeof name, "%.*s", (int)text.length, at);
+        compile(name, text, TRACE_MAX_TABLE, REFUSED(15, 0), empty);
+        compile(name, text, 0, REFUSED(15, 0), empty);
+        at += text.length;
+    }
+}
+
 /* Read, then the tokens of what it wrote. */
 static void cut(const char *name, Bytes table, uint64_t start, Bytes line, uint64_t want, Bytes front)
 {
@@ -107,7 +147,7 @@ static void nulls(Bytes table, uint64_t start, Bytes line, Bytes reading, Bytes 
 {
     static uint8_t work[100], out[2][16], spare[1];
     for (int empties = 0; empties < 16; empties++) {
-        uint64_t got[2][5];
+        uint64_t got[2][6];
         for (int null = 0; null < 2; null++) {
             uint8_t *at = null ? NULL : spare, *to = out[null];
             memset(to, 0xee, sizeof out[null]);
@@ -117,9 +157,10 @@ static void nulls(Bytes table, uint64_t start, Bytes line, Bytes reading, Bytes 
             got[null][2] = trace_spell(ARG(0, table.at, table.length), start, ARG(1, reading.at, reading.length), ARG(3, to, 16));
             got[null][3] = trace_compare(ARG(0, table.at, table.length), start, ARG(1, reading.at, reading.length), ARG(2, rival.at, rival.length));
             got[null][4] = trace_tokens(ARG(0, table.at, table.length), start, ARG(1, reading.at, reading.length), ARG(3, to, 16));
+            got[null][5] = trace_compile(ARG(1, line.at, line.length), ARG(3, to, 16));
 #undef ARG
         }
-        for (int call = 0; call < 5; call++)
+        for (int call = 0; call < 6; call++)
             expect("null with length 0", got[1][call], got[0][call]);
         expect_buffer("null with length 0", out[1], sizeof out[1], (Bytes){out[0], sizeof out[0]});
     }
@@ -162,6 +203,8 @@ int main(void)
     /* the worked example of docs/FORMATS.md; its second part is F and G */
     Bytes degrees = BYTES(2, '0', '9', 0, 5, 0, 0, 1, 2, 'C', 'C', 0, 4, 1, 2, 0), line29 = BYTES('2', '9', 'C');
     Bytes reading29 = BYTES(4, 0, 5, 2, 1, '2', 1, '9', 1, 'C');
+    table_of(TEXT("[0-9]*#001C"), degrees);
+    table_of(TEXT("(a|())(b|ab)"), t2);
     expect("29C, check", trace_check(degrees.at, degrees.length), 4);
     read("29C", degrees, 3, line29, 40, 10, 5, reading29, 0);
     read("29C, work area of 39", degrees, 3, line29, 39, 10, REFUSED(10, 0), empty, 1);
@@ -304,6 +347,79 @@ int main(void)
     read("a line of 255, one work byte short", any, 1, (Bytes){line, 255}, 65791, 512, REFUSED(10, 0), empty, 1);
     read("a line of 256", any, 1, (Bytes){line, 256}, 0, 0, REFUSED(7, 0), empty, 1);
     read("a refused table", bad, 9, (Bytes){line, 256}, 0, 0, REFUSED(2, 0), empty, 1);
+
+    /* the texts of document 02, and others: what stands for itself, escapes, brackets, tags, and how items group */
+    Bytes made = BYTES(2, 97, 97, 1, 2, 97, 97, 0, 2, 98, 98, 0, 4, 1, 2, 2, 3, 0, 3, 0, 2, 98, 98, 0, 2, 99, 99, 0, 4, 5, 6, 3, 3, 4, 7, 0, 5, 8, 0, 0);
+    table_of(TEXT("(a#001|(ab)#002|(bc)#003)*"), made);
+    table_of(TEXT("a"), BYTES(2, 'a', 'a', 0));
+    table_of(TEXT("(((a)))"), BYTES(2, 'a', 'a', 0));
+    table_of(TEXT("()"), BYTES(1, 0, 0, 0));
+    table_of(TEXT("(())"), BYTES(1, 0, 0, 0));
+    table_of(TEXT("( )"), BYTES(2, ' ', ' ', 0));
+    table_of(TEXT("\n"), BYTES(2, 10, 10, 0));
+    table_of(TEXT("\0"), BYTES(2, 0, 0, 0));
+    table_of(TEXT("\xff"), BYTES(2, 255, 255, 0));
+    table_of(TEXT("-"), BYTES(2, '-', '-', 0));
+    table_of(TEXT("\\a"), BYTES(2, 'a', 'a', 0));
+    for (const char *c = "|*()[]\\#"; *c; c++)
+        table_of(BYTES('\\', (uint8_t)*c), BYTES(2, (uint8_t)*c, (uint8_t)*c, 0));
+    table_of(TEXT("[a-a]"), BYTES(2, 'a', 'a', 0));
+    table_of(TEXT("[\0-\xff]"), BYTES(2, 0, 255, 0));
+    table_of(TEXT("[]-]]"), BYTES(2, ']', ']', 0));
+    table_of(TEXT("[\\-]]"), BYTES(2, '\\', ']', 0));
+    table_of(TEXT("[---]"), BYTES(2, '-', '-', 0));
+    table_of(TEXT("[#-[]"), BYTES(2, '#', '[', 0));
+    table_of(TEXT("a#001"), BYTES(2, 'a', 'a', 1));
+    table_of(TEXT("(a)#255"), BYTES(2, 'a', 'a', 255));
+    table_of(TEXT("()#010"), BYTES(1, 0, 0, 10));
+    table_of(TEXT("a#0012"), BYTES(2, 'a', 'a', 1, 2, '2', '2', 0, 4, 0, 1, 0));
+    table_of(TEXT("a*#002"), BYTES(2, 'a', 'a', 0, 5, 0, 0, 2));
+    table_of(TEXT("a#001*#002"), BYTES(2, 'a', 'a', 1, 5, 0, 0, 2));
+    table_of(TEXT("(a#001b)#002"), BYTES(2, 'a', 'a', 1, 2, 'b', 'b', 0, 4, 0, 1, 2));
+    table_of(TEXT("a**"), BYTES(2, 'a', 'a', 0, 5, 0, 0, 0, 5, 1, 0, 0));
+    table_of(TEXT("abc"), BYTES(2, 'a', 'a', 0, 2, 'b', 'b', 0, 4, 0, 1, 0, 2, 'c', 'c', 0, 4, 2, 3, 0));
+    table_of(TEXT("a(bc)"), BYTES(2, 'a', 'a', 0, 2, 'b', 'b', 0, 2, 'c', 'c', 0, 4, 1, 2, 0, 4, 0, 3, 0));
+    table_of(TEXT("a|b|c"), BYTES(2, 'a', 'a', 0, 2, 'b', 'b', 0, 3, 0, 1, 0, 2, 'c', 'c', 0, 3, 2, 3, 0));
+    table_of(TEXT("a|bc*"), BYTES(2, 'a', 'a', 0, 2, 'b', 'b', 0, 2, 'c', 'c', 0, 5, 2, 0, 0, 4, 1, 3, 0, 3, 0, 4, 0));
+
+    /* 15: a side of | that is missing, an item that is, parentheses, brackets, a backslash at the end, tags */
+    outside("| a| |a a||b (|a) (a|) (|) * (*a) a|* ( ) (a a) (() ()) ] a] [ [a [a- [a-b [a-b) [b-a] [ab] [a+b] [a-bc] [] [\\a-b] \\ a\\");
+    outside("# #001 a# a#0 a#01 a#01a a#000 a#256 a#999 a#0:1 a#1/1 a|#001 (#001) a#001#002 (a#001)#002 ((a#001))#001");
+
+    /* 15 at 4,097 bytes, 16 at 256 records, and their order: 15, 16, 11 */
+    uint8_t text[4097], comb[1020];
+    compile("no byte", empty, TRACE_MAX_TABLE, REFUSED(15, 0), empty);
+    compile("no byte, no buffer", empty, 0, REFUSED(15, 0), empty);
+    memset(text, '(', 2048), memset(text + 2048, ')', 2049);
+    compile("4,096 bytes", (Bytes){text, TRACE_MAX_TEXT}, 4, 1, BYTES(1, 0, 0, 0));
+    compile("4,096 bytes, buffer of 3", (Bytes){text, TRACE_MAX_TEXT}, 3, REFUSED(11, 4), empty);
+    compile("4,096 bytes, the last one wrong", (Bytes){text + 1, TRACE_MAX_TEXT}, 4, REFUSED(15, 0), empty);
+    memset(text, '(', 2048), memset(text + 2048, 'a', 1), memset(text + 2049, ')', 2048);
+    compile("4,097 bytes", (Bytes){text, TRACE_MAX_TEXT + 1}, 4, REFUSED(15, 0), empty);
+    memset(comb, 0, sizeof comb);
+    for (size_t k = 0; k < 255; k++) {
+        uint8_t *record = comb + TRACE_TABLE_RECORD * k;
+        record[0] = k > 0 && k % 2 == 0 ? TRACE_OR : TRACE_RANGE;
+        record[1] = record[0] == TRACE_RANGE ? 'a' : (uint8_t)(k - 2);
+        record[2] = record[0] == TRACE_RANGE ? 'a' : (uint8_t)(k - 1);
+    }
+    size_t length = 254;
+    for (size_t i = 0; i <= length; i++)
+        text[i] = i % 2 ? '|' : 'a';
+    compile("255 records", (Bytes){text, length + 1}, sizeof comb, 255, (Bytes){comb, sizeof comb});
+    compile("255 records, a longer buffer", (Bytes){text, length + 1}, 1024, 255, (Bytes){comb, sizeof comb});
+    compile("255 records, buffer of 1,019", (Bytes){text, length + 1}, sizeof comb - 1, REFUSED(11, 1020), empty);
+    compile("255 records, no buffer", (Bytes){text, length + 1}, 0, REFUSED(11, 1020), empty);
+    compile("15 before 11", (Bytes){text, length}, 0, REFUSED(15, 0), empty);
+    text[length + 1] = '*';
+    compile("256 records", (Bytes){text, length + 2}, 1024, REFUSED(16, 0), empty);
+    compile("16 before 11", (Bytes){text, length + 2}, 0, REFUSED(16, 0), empty);
+    text[length + 2] = '|';
+    compile("15 before 16", (Bytes){text, length + 3}, 1024, REFUSED(15, 0), empty);
+    compile("15 before 16 and 11", (Bytes){text, length + 3}, 0, REFUSED(15, 0), empty);
+    memset(text, 'a', sizeof text);
+    compile("4,096 bytes and 8,191 records", (Bytes){text, TRACE_MAX_TEXT}, 2048, REFUSED(16, 0), empty);
+    compile("4,097 bytes and 8,193 records", (Bytes){text, TRACE_MAX_TEXT + 1}, 2048, REFUSED(15, 0), empty);
 
     /* null pointers: with a line, and where an empty line and an empty buffer are no refusal */
     nulls(t1, 9, abc, c, c);

@@ -26,7 +26,7 @@ static void version(void)
 /* Each number from 0 to one past the last refusal has a text of its own, and all later ones have that of the first of them. */
 static void texts(void)
 {
-    uint32_t i, j, end = TRACE_REFUSED_DIFFER + 1;
+    uint32_t i, j, end = TRACE_REFUSED_RECORDS + 1;
     for (i = 0; i <= end; i++)
         for (j = 0; j < i; j++)
             expect("two numbers with one text", strcmp(trace_refusal_text(i), trace_refusal_text(j)) != 0);
@@ -43,12 +43,17 @@ static void answers(void)
     answer = trace_tokens(table, sizeof table, 1, reading, TRACE_READING_RECORD, tokens, 2);
     expect("a refusal", trace_is_refused(answer) && trace_refusal(answer) == TRACE_REFUSED_BUFFER && trace_detail(answer) == TRACE_TOKEN);
     expect("the check", trace_check(table, sizeof table) == sizeof table / TRACE_TABLE_RECORD);
+    answer = trace_compile((const uint8_t *)"a|", 2, reading, 0);
+    expect("a text's refusal", trace_refusal(answer) == TRACE_REFUSED_TEXT && trace_detail(answer) == 0);
+    answer = trace_compile((const uint8_t *)"a", 1, reading, sizeof reading);
+    expect("a text's table", answer == 1 && memcmp(reading, "\2aa", TRACE_TABLE_RECORD) == 0);
 }
 
 static void sizes(void)
 {
     expect("the work area's size", trace_work_size(10, 3) == 100 && trace_work_size(255, 255) == 8388480 && trace_work_size(1, 0) == 1);
     expect("a reading's size", trace_reading_size(10, 3) == 60 && trace_reading_size(10, 0) == 20);
+    expect("a table's size", TRACE_MAX_TABLE == TRACE_MAX_RECORDS * TRACE_TABLE_RECORD);
     expect("the tokens' size", trace_tokens_size(3) == 9 && trace_tokens_size(TRACE_MAX_LINE) == 765 && trace_tokens_size(0) == 0);
 }
 

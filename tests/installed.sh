@@ -17,16 +17,20 @@ export PKG_CONFIG_PATH=$root/lib/pkgconfig LD_LIBRARY_PATH=$root/lib
 version=$(printf '#include <trace.h>\nTRACE_VERSION\n' | gcc -E -P $(pkg-config --cflags trace) - | tail -n 1 | tr -d '" ')
 [ "$(pkg-config --modversion trace)" = "$version" ]
 
-# the example, linked with the shared library, and with the archive
+# the examples, linked with the shared library, and with the archive
 cc="gcc -std=c99 -O2 -Wall -Wextra -Wpedantic -Werror"
-$cc examples/commission.c $(pkg-config --cflags --libs trace) -o "$dir/commission"
-grep -q "libtrace.so.[0-9]* => $root/lib/" <<<"$(ldd "$dir/commission")"
-bash tests/example.sh "$dir/commission"
-$cc examples/commission.c $(pkg-config --cflags trace) "$(pkg-config --variable=libdir trace)/libtrace.a" -o "$dir/commission"
-bash tests/example.sh "$dir/commission"
+for example in commission rules; do
+    $cc examples/$example.c $(pkg-config --cflags --libs trace) -o "$dir/$example"
+    grep -q "libtrace.so.[0-9]* => $root/lib/" <<<"$(ldd "$dir/$example")"
+done
+bash tests/example.sh "$dir/commission" "$dir/rules"
+for example in commission rules; do
+    $cc examples/$example.c $(pkg-config --cflags trace) "$(pkg-config --variable=libdir trace)/libtrace.a" -o "$dir/$example"
+done
+bash tests/example.sh "$dir/commission" "$dir/rules"
 
-# the program
-bash demo/build-table.sh demo/rules.txt >"$dir/rules.tab"
+# the programs
+"$root/bin/tracerules" <demo/rules.txt >"$dir/rules.tab"
 [ "$(cd "$dir" && echo '12:04 lift 29' | "$root/bin/tracecut")" = "$(printf 'line 1 ok 3\n1 0 5\n2 6 4\n3 11 2')" ]
 
 # for a package: the same files under DESTDIR, none of which names it; and none is left behind

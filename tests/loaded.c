@@ -1,5 +1,5 @@
 /*
- * loaded LIBRARY: opens the shared library at run time and makes each of the five calls through it. Exit status 0 if every answer is right.
+ * loaded LIBRARY: opens the shared library at run time and makes each of the six calls through it. Exit status 0 if every answer is right.
  */
 #include <dlfcn.h>
 #include <stdio.h>
@@ -40,7 +40,8 @@ int main(int count, char **arguments)
     uint64_t (*spell)(const uint8_t *, size_t, uint64_t, const uint8_t *, size_t, uint8_t *, size_t);
     uint64_t (*compare)(const uint8_t *, size_t, uint64_t, const uint8_t *, size_t, const uint8_t *, size_t);
     uint64_t (*tokens)(const uint8_t *, size_t, uint64_t, const uint8_t *, size_t, uint8_t *, size_t);
-    uint8_t work[100], reading[60], listed[90], line[3];
+    uint64_t (*compile)(const uint8_t *, size_t, uint8_t *, size_t);
+    uint8_t work[100], reading[60], listed[90], line[3], made[TRACE_MAX_TABLE];
     void *library = dlopen(count == 2 ? arguments[1] : "", RTLD_NOW | RTLD_LOCAL);
     if (library == NULL) {
         printf("loaded: %s\n", dlerror());
@@ -51,6 +52,7 @@ int main(int count, char **arguments)
     find(library, "trace_spell", &spell);
     find(library, "trace_compare", &compare);
     find(library, "trace_tokens", &tokens);
+    find(library, "trace_compile", &compile);
 
     expect("check", check(table, sizeof table) == 10);
     expect("read", read(table, sizeof table, 9, (const uint8_t *)"abc", 3, work, sizeof work, reading, sizeof reading) == 8);
@@ -59,6 +61,9 @@ int main(int count, char **arguments)
     expect("tokens", tokens(table, sizeof table, 9, reading, 16, listed, sizeof listed) == 2 && memcmp(listed, "\1\0\1\3\1\2", 6) == 0);
     expect("a line that is refused",
            trace_refusal(read(table, sizeof table, 9, (const uint8_t *)"b", 1, work, sizeof work, reading, sizeof reading)) == TRACE_REFUSED_NO_READING);
+    expect("compile", compile((const uint8_t *)"(bc)*#002", 9, made, sizeof made) == 4
+                          && memcmp(made, "\2bb\0\2cc\0\4\0\1\0\5\2\0\2", 16) == 0);
+    expect("a text that is refused", trace_refusal(compile((const uint8_t *)"(bc", 3, made, sizeof made)) == TRACE_REFUSED_TEXT);
     dlclose(library);
     return 0;
 }

@@ -1,6 +1,6 @@
 #!/usr/bin/env bash
 # The manual pages of an installation under a short and under a long prefix: they give no warning, have the header's version and name the page on
-# formats where it is; libtrace(3) names all that the header offers. Run from the repository's root.
+# formats where it is, and tracerules(1) the guide; libtrace(3) names all that the header offers. Run from the repository's root.
 set -euo pipefail
 dir=$(mktemp -d)
 trap 'rm -rf "$dir"' EXIT
@@ -22,6 +22,7 @@ for prefix in /usr "/opt/$(printf 'long-%.0s' {1..40})/x"; do
         man -M "$pages" "${name##*.}" "${name%.*}" >"$dir/text"
         grep -q "^trace $version " "$dir/text" || fail "$name has another version than $version"
         grep -qF " $prefix/share/doc/trace/FORMATS.md" "$dir/text" || fail "$name names no page on formats under $prefix"
+        [ "$name" != tracerules.1 ] || grep -qF " $prefix/share/doc/trace/GUIDE.md" "$dir/text" || fail "$name names no guide under $prefix"
     done
 done
 

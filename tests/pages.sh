@@ -13,15 +13,16 @@ pages=(README.md CONTRIBUTING.md docs/*.md)
 listing() { awk -v n="$1" '/^```/ { fences++; next } fences == 2 * n - 1' README.md; }
 quoted() { grep -ohE '`[^`]+`' "$@" | tr -d '`' | sort -u; }
 
-# the line of the first listing gives the tokens of the second
-bash demo/build-table.sh demo/rules.txt >"$dir/rules.tab"
-(cd "$dir" && "$program") < <(listing 1) | tail -n +2 | diff <(listing 2) - || fail "the demo's line has other tokens"
+# the first listing is the demo's rule, by which the line of the second gives the tokens of the third
+listing 1 | diff demo/rules.txt - || fail "the rule is not demo/rules.txt"
+target/bin/tracerules <demo/rules.txt >"$dir/rules.tab"
+(cd "$dir" && "$program") < <(listing 2) | tail -n +2 | diff <(listing 3) - || fail "the demo's line has other tokens"
 
-# the third listing is examples/first.c, and the fourth what it prints
-listing 3 | diff examples/first.c - || fail "the C code is not examples/first.c"
+# the fourth listing is examples/first.c, and the fifth what it prints
+listing 4 | diff examples/first.c - || fail "the C code is not examples/first.c"
 export PKG_CONFIG_PATH=$1/lib/pkgconfig LD_LIBRARY_PATH=$1/lib
 gcc -std=c99 -O2 -Wall -Wextra -Wpedantic -Werror examples/first.c $(pkg-config --cflags --libs trace) -o "$dir/first"
-"$dir/first" | diff <(listing 4) - || fail "examples/first.c prints something else"
+"$dir/first" | diff <(listing 5) - || fail "examples/first.c prints something else"
 
 # README.md names every crate, and every C function that a program calls
 for crate in $(sed -n 's/^\([a-z_]*\):.*/\1/p' crates.txt); do

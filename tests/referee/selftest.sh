@@ -68,4 +68,48 @@ done <<'LIST'
 37 gate Tokens moves the offset on by one at an empty part
 38 gate Tokens lists the empty parts inside an empty part
 39 gate Tokens counts the empty parts for refusal 11
+40 notation Compile: Or binds tighter than Seq
+41 notation Compile: Or groups to the right
+42 notation Compile: a bare item takes two tags
+43 notation Compile: a tag of two digits is taken
+44 notation Compile: the tag 000 is taken
+45 notation Compile: the tag 256 is taken
+46 notation Compile: a range with p above q is taken
+47 notation Compile: a missing left side of | is taken
+48 notation Compile: the right side is written before the left
+49 notation Compile: 16 comes before 15
+50 notation Compile: refusal 11 has the records as its detail
+51 notation Compile: the tag is on the child in place of the Star
+52 notation Compile: a record number is off by one
+53 notation Compile: the later bytes of the buffer are cleared
+54 notation Compile: an item in parentheses takes a second tag
+55 valgrind Compile: reads past the end of [a-
+56 notation Compile: a backslash at the end is taken
+57 notation Compile: a digit behind a tag is refused
+58 notation Compile: an unescaped ] is taken
+59 notation Compile: Seq groups to the right
+60 notation Compile: a missing right side of | is taken
+61 notation Compile: a text of 4,097 bytes is taken
+62 notation Compile: a text of 4,096 bytes is refused
+63 stack Compile: takes 1 KiB of stack at each parenthesis
+64 notation Compile: a range with another byte than - is taken
+65 notation Compile: a range with p equal to q is refused
+66 notation Compile: ] or a backslash in brackets is refused
+67 notation Compile: 11 comes before 16
+68 notation Compile: the byte 0 is refused
+69 notation Compile: the byte 10 is refused
+70 notation Compile: a tag with another byte than a digit is taken
+71 notation Compile: a backslash before a letter is refused
+72 notation Compile: a parenthesis that the end leaves open is taken
+73 notation Compile: the tag 255 is refused
+74 notation Compile: - outside brackets is refused
+75 notation Compile: two Stars become one
+76 notation Compile: two Stars are refused
+77 notation Compile: refusal 15 changes the buffer
+78 notation Compile: 11 comes before 15
+79 notation Compile: 255 records are refused
+80 notation Compile: 256 records are taken
+81 notation Compile: refusal 16 has the records as its detail
+82 notation Compile: a buffer of exactly the table's length is refused
+83 notation Compile: one byte more is written
 LIST

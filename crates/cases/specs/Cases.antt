@@ -1,4 +1,4 @@
--- The cases A to J of document 01, "Lines on the bench", and cases of document 02, request 1, in bytes: a call, what it answers and what it
+-- The cases A to J of document 01, "Lines on the bench", and cases of document 02, requests 1 to 3, in bytes: a call, what it answers and what it
 -- writes.
 -- Assumes nothing.
 use Prim.Native.Nat.{ℕ}
@@ -10,10 +10,12 @@ use Rattle.reading.specs.Calls.{spellSays, spellLeaves}
 use Rattle.tokens.specs.Listed.{tokensSays, tokensLeaves}
 use Rattle.ranking.specs.Answers.{compareSays}
 use Rattle.matcher.specs.Calls.{readSays, readLeaves}
-use Rattle.cases.specs.Tables.{T1, T2, T3, T4, Remark, NoByte, AllBut5, Crossed, Kind7, Gust, Blank}
+use Rattle.notation.specs.Calls.{compileSays, compileLeaves}
+use Rattle.cases.specs.Tables.{T1, T2, T3, T4, Remark, NoByte, AllBut5, Crossed, Kind7, Gust, Blank, T1-text, T1-written, T2-text, T2-written}
 
--- a call on a table and a start number
+-- a call on a table and a start number; the one that turns notation into a table has the text for the table
 pub data Call : Type 0 where
+  compile : Call
   check : Call
   read : ℕ → List ℕ → Call
   spell : ℕ → List ℕ → Call
@@ -45,6 +47,7 @@ stated c = record { said = c .said; out = c .bytes ++ drop (length (c .bytes)) e
 
 -- what the definitions compute
 unfoldable pub computedBy : List ℕ → Call → Outcome
+computedBy t compile = record { said = compileSays t 32; out = compileLeaves t entry }
 computedBy t check = record { said = checked t; out = entry }
 computedBy t (read k s) = record { said = readSays t k s workBytes 32; out = readLeaves t k s workBytes entry }
 computedBy t (spell k bs) = record { said = spellSays t k bs 32; out = spellLeaves t k bs entry }
@@ -91,7 +94,7 @@ Gust-absent = 4 ∷ 0 ∷ 1 ∷ 0x61 ∷ 4 ∷ 0 ∷ 3 ∷ 0 ∷ 0 ∷ 0 ∷ 1 �
 abbrev pub Blank-reading : List ℕ
 Blank-reading = 4 ∷ 0 ∷ 0 ∷ 0 ∷ 0 ∷ 0 ∷ []
 
--- T1 to T4 pass; A to J; the readings spelled back; G the other way round; then Other and empty parts
+-- T1 to T4 pass; A to J; the readings spelled back; G the other way round; then Other, empty parts, and T1 and T2 as texts
 abbrev pub cases : List Case
 cases =
     case T1 check (gives 10) []
@@ -154,4 +157,17 @@ cases =
     -- Blank
     ∷ case Blank (read 2 []) (gives 3) Blank-reading
     ∷ case Blank (tokens 2 Blank-reading) (gives 0) []
+    -- a#009*; then T1 and T2 as texts, which need 40 and 36 bytes: A to F by the tables that they stand for
+    ∷ case (0x61 ∷ 0x23 ∷ 0x30 ∷ 0x30 ∷ 0x39 ∷ 0x2a ∷ []) compile (gives 2) (2 ∷ 0x61 ∷ 0x61 ∷ 9 ∷ 5 ∷ 0 ∷ 0 ∷ 0 ∷ [])
+    ∷ case T1-text compile (refuses 11 40) []
+    ∷ case T2-text compile (refuses 11 36) []
+    ∷ case T1-written check (gives 10) []
+    ∷ case T1-written (read 9 []) (gives 1) (5 ∷ 0 ∷ [])
+    ∷ case T1-written (read 9 (0x61 ∷ 0x62 ∷ [])) (gives 6) B-reading
+    ∷ case T1-written (read 9 (0x61 ∷ 0x62 ∷ 0x63 ∷ [])) (gives 8) C-reading
+    ∷ case T1-written (read 9 (0x61 ∷ 0x62 ∷ 0x63 ∷ 0x61 ∷ 0x62 ∷ [])) (gives 13) D-reading
+    ∷ case T1-written (tokens 9 D-reading) (gives 3) (1 ∷ 0 ∷ 1 ∷ 3 ∷ 1 ∷ 2 ∷ 2 ∷ 3 ∷ 2 ∷ [])
+    ∷ case T1-written (read 9 (0x62 ∷ [])) (refuses 8 0) []
+    ∷ case T2-written check (gives 9) []
+    ∷ case T2-written (read 8 (0x61 ∷ 0x62 ∷ [])) (gives 5) F-reading
     ∷ []

@@ -1,8 +1,8 @@
-// Runs the cases A to J of document 01, and those of document 02's Other and empty parts, through the calls and writes a line for each: the
+// Runs the cases A to J of document 01, and those of document 02's Other, empty parts and texts, through the calls and writes a line for each: the
 // answer, and the bytes that the call wrote. The tables and readings are those of specs/, which the one proof over the cases covers.
 
 ghost use mathlib.Core.Path.{_≡_};
-ghost use Rattle.cases.specs.Tables.{T1, T2, T3, T4, Remark, NoByte, AllBut5, Crossed, Kind7, Gust, Blank};
+ghost use Rattle.cases.specs.Tables.{T1, T2, T3, T4, Remark, NoByte, AllBut5, Crossed, Kind7, Gust, Blank, T1-text, T2-text};
 ghost use Rattle.cases.specs.Cases.{B-reading, C-reading, D-reading, F-reading, G-rival, Remark-reading, Remark-unfit, Gust-there, Gust-absent, Blank-reading};
 use libc::STDOUT_FILENO;
 use table::Answer;
@@ -71,6 +71,18 @@ fn blank() -> [u8; 12]
     ensures { λ r. ⌜ r ≡ Blank ⌝ }
 {
     *b"\x01\x00\x00\x07\x01\x00\x00\x08\x04\x00\x01\x09"
+}
+
+fn t1_text() -> [u8; 26]
+    ensures { λ r. ⌜ r ≡ T1-text ⌝ }
+{
+    *b"(a#001|(ab)#002|(bc)#003)*"
+}
+
+fn t2_text() -> [u8; 12]
+    ensures { λ r. ⌜ r ≡ T2-text ⌝ }
+{
+    *b"(a|())(b|ab)"
 }
 
 fn b_reading() -> [u8; 12]
@@ -310,6 +322,47 @@ fn run_blank() {
     run_tokens(b"Blank tokens", &table, 2, &blank_reading());
 }
 
+fn run_compile(name: &[u8], text: &[u8]) {
+    let mut out = [0xeeu8; 32];
+    io::write_all(STDOUT_FILENO, name);
+    show_answer(notation::compile(text, &mut out));
+    show_bytes(&out);
+}
+
+fn run_texts() {
+    run_compile(b"a#009*", b"a#009*");
+    run_compile(b"T1 as a text", &t1_text());
+    run_compile(b"T2 as a text", &t2_text());
+}
+
+fn run_t1_written(table: &[u8]) {
+    show_bytes(table);
+    run_check(b"T1 written", table);
+    run_read(b"A by the text", table, 9, b"");
+    run_read(b"B by the text", table, 9, b"ab");
+    run_read(b"C by the text", table, 9, b"abc");
+    run_read(b"D by the text", table, 9, b"abcab");
+    run_tokens(b"D tokens by the text", table, 9, &d_reading());
+    run_read(b"E by the text", table, 9, b"b");
+}
+
+fn run_t2_written(table: &[u8]) {
+    show_bytes(table);
+    run_check(b"T2 written", table);
+    run_read(b"F by the text", table, 8, b"ab");
+}
+
+fn run_written() {
+    let mut t1 = [0u8; 40];
+    io::write_all(STDOUT_FILENO, b"T1 as a text, 40 bytes");
+    show_answer(notation::compile(&t1_text(), &mut t1));
+    run_t1_written(&t1);
+    let mut t2 = [0u8; 36];
+    io::write_all(STDOUT_FILENO, b"T2 as a text, 36 bytes");
+    show_answer(notation::compile(&t2_text(), &mut t2));
+    run_t2_written(&t2);
+}
+
 fn main() {
     run_t1();
     run_t1_more();
@@ -323,4 +376,6 @@ fn main() {
     run_refused();
     run_gust();
     run_blank();
+    run_texts();
+    run_written();
 }

@@ -36,6 +36,8 @@ use Rattle.tokens.specs.Listed.{tokensSays}
 use Rattle.tokens.proofs.Counts.{bytes-count, tokens-count}
 use Rattle.ranking.specs.Answers.{verdictNumber, sameLine, compareParsed, compareSays}
 use Rattle.matcher.specs.Calls.{workSize, readParsed, readSays}
+use Rattle.notation.specs.Calls.{compileSays}
+use Rattle.notation.proofs.Calls.{compile-said}
 
 small-or : (b : Bool) (x y : Said) → Small x → (b ≡ false → Small y) → Small (orElse b x y)
 small-or = said-or Small
@@ -161,6 +163,13 @@ small-read t k s work room =
         let n : length (flat v) ≤ 255 = rw (posix-flat q) h in
         let r : records v ≤ 65025 = few-records t k v p l (posix-reads q) n in
         small-room room (encode v) (records v) (omega (arith, encode-length (posix-reads q))) (omega arith)
+
+-- and that of the call that turns notation into a table
+pub small-compile : (s : List ℕ) (room : ℕ) → Small (compileSays s room)
+small-compile s room =
+    compile-said Small s room (omega arith, omega arith, omega arith) (omega arith, omega arith, omega arith)
+    (λ n few short. (omega arith, omega arith, omega arith))
+    (λ n few enough. omega arith)
 
 -- an answer that is one of these
 pub said-small : {x : Said} (y : Said) → x ≡ y → Small y → Small x

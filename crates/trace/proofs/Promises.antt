@@ -1,6 +1,6 @@
 -- The page of promises: the three demands, and what document 02's requests add, over the definitions that the calls' contracts cite, each
--- proved by one citation. The contracts of table::check, matcher::read, reading::spell, tokens::tokens, ranking::compare and ranking::earlier
--- say that the calls answer and leave what these definitions say, for every input: none of them has a `requires`, and each is proved to end.
+-- proved by one citation. The contracts of table::check, matcher::read, reading::spell, tokens::tokens, ranking::compare, ranking::earlier and
+-- notation::compile say that the calls answer and leave what these definitions say, for every input: none of them has a `requires`, and each is proved to end.
 -- The clause rivals of matcher::read and the clause precedence of ranking::compare say demand 3 of the answer and the buffer themselves, and
 -- those of the calls for C of the number.
 -- Assumes nothing.
@@ -37,10 +37,17 @@ use Rattle.ranking.proofs.Misfits.{misfits-first, misfits-second}
 use Rattle.matcher.specs.Calls.{workSize, readSays, readLeaves, PosixWritten}
 use Rattle.matcher.specs.Demands.{Setting, NoneOutranks}
 use Rattle.matcher.proofs.Rivals.{read-outranks}
+use Rattle.notation.specs.Trees.{Tree}
+use Rattle.notation.specs.Grammar.{Whole}
+use Rattle.notation.specs.Tables.{size, tableOf}
+use Rattle.notation.specs.Calls.{compileSays, compileLeaves}
+use Rattle.notation.specs.Accepted.{Text, TableFor}
+use Rattle.notation.proofs.Complete.{one-tree}
+use Rattle.notation.proofs.Calls.{compile-outside, compile-many, compile-short, compile-writes, compile-gives, compile-table, compile-refused}
 use Rattle.trace.specs.Numbers.{Small}
 use Rattle.trace.specs.SameCalls.{SameCalls}
 use Rattle.trace.proofs.Answers.{read-writes, read-refused, spell-refused, tokens-refused}
-use Rattle.trace.proofs.Bounds.{small-checked, small-read, small-spell, small-compare, small-tokens, room-for-line, room-for-all}
+use Rattle.trace.proofs.Bounds.{small-checked, small-read, small-spell, small-compare, small-tokens, small-compile, room-for-line, room-for-all}
 use Rattle.trace.proofs.Numbers.{same-number}
 use Rattle.trace.proofs.UpTo.{up-to-same, up-to-less}
 
@@ -60,6 +67,9 @@ tokens-answers = small-tokens
 pub compare-answers : (t : List ℕ) (k : ℕ) (bs cs : List ℕ) → Small (compareSays t k bs cs)
 compare-answers = small-compare
 
+pub compile-answers : (s : List ℕ) (room : ℕ) → Small (compileSays s room)
+compile-answers = small-compile
+
 -- Demand 1: and no two of these answers have one number for C
 pub number-unique : (x y : Said) → Small x → Small y → number x ≡ number y → x ≡ y
 number-unique = same-number
@@ -73,6 +83,9 @@ spell-keeps = spell-refused
 
 pub tokens-keeps : (t : List ℕ) (k : ℕ) (bs out : List ℕ) (n d : ℕ) → tokensSays t k bs (length out) ≡ refuses n d → tokensLeaves t k bs out ≡ out
 tokens-keeps = tokens-refused
+
+pub compile-keeps : (s out : List ℕ) (n d : ℕ) → compileSays s (length out) ≡ refuses n d → compileLeaves s out ≡ out
+compile-keeps = compile-refused
 
 -- Demand 2: Read writes the reading that the relation gives the line, and nothing else
 pub read-right : (t : List ℕ) (k : ℕ) (s : List ℕ) (work : ℕ) (out : List ℕ) (n : ℕ) → readSays t k s work (length out) ≡ gives n → PosixWritten t k s out (readLeaves t k s work out) n
@@ -166,6 +179,40 @@ other-of-none = other-none
 -- Every line that an expression spells, with letters of either kind, is a list of bytes
 pub lines-bytes : (r : Exp) (s : List ℕ) → L r s → Bytes s
 lines-bytes = spelled-bytes
+
+-- Request 3: 15 is "for a text outside the grammar or over its limit", so that short of 16 and 11 the call accepts exactly the texts of the grammar
+-- of up to 4,096 bytes
+pub compile-exact : (s : List ℕ) (room : ℕ) → (compileSays s room ≡ refuses 15 0) ↔ ¬ (Text s)
+compile-exact = compile-outside
+
+-- Request 3: "each accepted text has one grouping"
+pub compile-one-tree : {s : List ℕ} {t u : Tree} → Whole s t → Whole s u → t ≡ u
+compile-one-tree = one-tree
+
+-- Request 3: of such a text "16 for more than 255 records; after that 11", with the bytes needed
+pub compile-many-records : (s : List ℕ) (room : ℕ) (x : Text s) → (compileSays s room ≡ refuses 16 0) ↔ (255 < size (x .tree))
+compile-many-records = compile-many
+
+pub compile-short-buffer :
+    (s : List ℕ) (room : ℕ) (x : Text s) → size (x .tree) ≤ 255
+    → (d : ℕ)
+    → (compileSays s room ≡ refuses 11 d) ↔ ((room < 4 * size (x .tree)) × (d ≡ 4 * size (x .tree)))
+compile-short-buffer = compile-short
+
+-- Request 3: otherwise it writes the table of the text's tree, "the record count is returned", and the later bytes are left
+pub compile-right :
+    (s out : List ℕ) (x : Text s) → size (x .tree) ≤ 255 → 4 * size (x .tree) ≤ length out
+    → (compileSays s (length out) ≡ gives (size (x .tree))) × (compileLeaves s out ≡ tableOf (x .tree) ++ drop (4 * size (x .tree)) out)
+compile-right = compile-writes
+
+pub compile-result :
+    (s : List ℕ) (room m : ℕ) → compileSays s room ≡ gives m → (x : Text s) × (m ≡ size (x .tree)) × (m ≤ 255) × (4 * m ≤ room)
+compile-result = compile-gives
+
+-- Request 3: "Every table it writes passes Check", and its last record is the root: it stands for the tree, record by record and tags included,
+-- and has its expression
+pub compile-stands : (s : List ℕ) (x : Text s) → size (x .tree) ≤ 255 → TableFor (x .tree) (tableOf (x .tree))
+compile-stands = compile-table
 
 -- Beyond the demands: a table that passes may be lent up to its start record alone. It passes too, with the start record as its last, each call
 -- says and leaves the same by it, and Read needs no more work area

@@ -11,6 +11,7 @@ ghost use Rattle.ranking.specs.OneLine.{OneLine, AnswersPrecedence};
 ghost use Rattle.tokens.specs.Listed.{tokensSays, tokensLeaves};
 ghost use Rattle.matcher.specs.Calls.{readSays, readLeaves, keepsWork};
 ghost use Rattle.matcher.specs.Demands.{Setting, NoneOutranks};
+ghost use Rattle.notation.specs.Calls.{compileSays, compileLeaves};
 ghost use Rattle.trace.specs.Numbers.{Small};
 use table::Answer;
 
@@ -86,4 +87,13 @@ pub extern "C" fn trace_tokens(table: &[u8], start: u64, reading: &[u8], out: &m
     ensures buffer { λ r. ⌜ now (out .exit) ≡ tokensLeaves (now (table .entry)) start (now (reading .entry)) (now (out .entry)) ⌝ }
 {
     number_of(tokens::tokens(table, start as usize, reading, out))
+}
+
+// The table of a text of the notation.
+#[no_mangle]
+pub extern "C" fn trace_compile(text: &[u8], out: &mut [u8]) -> u64
+    ensures answer { λ r. ⌜ r ≡ number (compileSays (now (text .entry)) (length (now (out .entry)))) ⌝ }
+    ensures buffer { λ r. ⌜ now (out .exit) ≡ compileLeaves (now (text .entry)) (now (out .entry)) ⌝ }
+{
+    number_of(notation::compile(text, out))
 }

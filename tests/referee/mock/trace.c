@@ -319,3 +319,164 @@ uint64_t trace_compare(const uint8_t *table, size_t table_len, uint64_t start, c
     size_t x = 0, y = 0;
     return (uint64_t)rank(t, (uint32_t)start, first, first_len, second, second_len, &x, &y);
 }
+
+/* The notation, from left to right. The record of what was parsed last is the
+   last one; records from 256 on are counted and not stored. */
+typedef struct { const uint8_t *s; size_t n, at, count; uint8_t tag, out[1020]; } cm;
+
+static int next(const cm *c, uint8_t b) { return c->at < c->n && c->s[c->at] == b; }
+
+static void emit(cm *c, uint8_t d, size_t a, size_t b) {
+    if (c->count < 255) {
+        uint8_t *to = c->out + 4 * c->count;
+        to[0] = d;
+        to[1] = (uint8_t)a;
+        to[2] = (uint8_t)b;
+        to[3] = 0;
+    }
+    c->count++;
+    c->tag = 0;
+}
+
+/* Fault 48: the records of the left side and those of the right, which was parsed last, change places. */
+__attribute__((noinline)) static void turn(cm *c, size_t *left, size_t *right) {
+    uint8_t old[1020];
+    size_t first = *left;
+    if (c->count > 255) return;
+    memcpy(old, c->out, sizeof old);
+    while (old[4 * first] > 2) first = old[4 * first + (old[4 * first] == 5 ? 1 : 2)];
+    size_t lefts = *left + 1 - first, rights = *right - *left;
+    for (size_t k = first; k < c->count; k++) {
+        size_t to = k <= *left ? k + rights : k - lefts;
+        uint8_t *r = memcpy(c->out + 4 * to, old + 4 * k, 4);
+        if (r[0] > 2) r[1] = (uint8_t)(r[1] + to - k);
+        if (r[0] == 3 || r[0] == 4) r[2] = (uint8_t)(r[2] + to - k);
+    }
+    *left += rights;
+    *right -= lefts;
+}
+
+static void join(cm *c, uint8_t d, size_t left) {
+    size_t right = c->count - 1;
+    if (FAULT == 48) turn(c, &left, &right);
+    emit(c, d, left, right + (FAULT == 52 && right > 3));
+}
+
+static int joined(cm *c, int level);
+
+__attribute__((noinline)) static int deeply(cm *c) {
+    volatile uint8_t big[1024] = {0};
+    return joined(c, 0) + big[1023];
+}
+
+static int in_parentheses(cm *c) {
+    c->at++;
+    if (next(c, ')') || (FAULT == 72 && c->at == c->n)) emit(c, 1, 0, 0);
+    else if (!(FAULT == 63 ? deeply(c) : joined(c, 0))) return 0;
+    if (FAULT == 54) c->tag = 0;
+    if (!next(c, ')')) return FAULT == 72 && c->at == c->n;
+    c->at++;
+    return 1;
+}
+
+static int in_brackets(cm *c) {
+    const uint8_t *s = c->s + c->at;
+    size_t left = c->n - c->at;
+    if (FAULT == 55 ? s[4] != ']' || left < 5 : left < 5 || s[4] != ']') return 0;
+    if (s[2] != '-' && FAULT != 64) return 0;
+    if (s[1] > s[3] - (FAULT == 65) && FAULT != 46) return 0;
+    if (FAULT == 66 && (s[1] == ']' || s[3] == ']' || s[1] == '\\')) return 0;
+    emit(c, 2, s[1], s[3]);
+    c->at += 5;
+    return 1;
+}
+
+static int digit(uint8_t b) { return '0' <= b && b <= '9'; }
+
+/* The tag at the place: how many bytes it takes, or 0. */
+static size_t tag_at(const cm *c, int *number) {
+    const uint8_t *s = c->s + c->at;
+    size_t left = c->n - c->at, digits = 0;
+    *number = 0;
+    while (digits < 3 && digits + 1 < left && (digit(s[digits + 1]) || (FAULT == 70 && digits == 1)))
+        *number = 10 * *number + s[++digits] - '0';
+    if (digits < 3 && !(FAULT == 43 && digits == 2)) return 0;
+    if (FAULT == 57 && left > 4 && digit(s[4])) return 0;
+    if (*number < (FAULT == 44 ? 0 : 1) || *number > (FAULT == 45 ? 256 : FAULT == 73 ? 254 : 255)) return 0;
+    return 1 + digits;
+}
+
+static int item(cm *c) {
+    if (c->at == c->n) return 0;
+    uint8_t b = c->s[c->at];
+    if (b == '(') {
+        if (!in_parentheses(c)) return 0;
+    } else if (b == '[') {
+        if (!in_brackets(c)) return 0;
+    } else if (b == '\\') {
+        if (++c->at == c->n && FAULT != 56) return 0;
+        b = c->at == c->n ? b : c->s[c->at++];
+        if (FAULT == 71 && b == 'a') return 0;
+        emit(c, 2, b, b);
+    } else if (strchr("|*)]#", b) && b && !(b == ']' && FAULT == 58)) {
+        return 0;
+    } else if ((FAULT == 68 && b == 0) || (FAULT == 69 && b == 10) || (FAULT == 74 && b == '-')) {
+        return 0;
+    } else {
+        emit(c, 2, b, b);
+        c->at++;
+    }
+    for (;;) {
+        int number;
+        if (next(c, '*')) {
+            uint8_t *r = c->out + 4 * (c->count - 1);
+            c->at++;
+            if (FAULT == 75 && c->count < 255 && r[0] == 5 && r[3] == 0) continue;
+            emit(c, 5, c->count - 1, 0);
+            if (FAULT == 76 && next(c, '*')) return 0;
+        } else if (next(c, '#')) {
+            size_t more = tag_at(c, &number);
+            if (more == 0 || (c->tag && FAULT != 42)) return 0;
+            c->at += more;
+            size_t k = c->count - 1;
+            if (FAULT == 51 && k < 255 && c->out[4 * k] == 5) k = c->out[4 * k + 1];
+            if (k < 255) c->out[4 * k + 3] = (uint8_t)number;
+            c->tag = (uint8_t)(number ? number : 1);
+        } else {
+            return 1;
+        }
+    }
+}
+
+/* Parts joined by Or (level 0) or by Seq (level 1), grouped to the left. */
+static int joined(cm *c, int level) {
+    int or = (level == 0) != (FAULT == 40), right = FAULT == (or ? 41 : 59);
+    if (FAULT == 47 && or && next(c, '|')) emit(c, 1, 0, 0);
+    else if (!(level == 0 ? joined(c, 1) : item(c))) return 0;
+    while (or ? next(c, '|') : c->at < c->n && !next(c, '|') && !next(c, ')')) {
+        size_t left = c->count - 1;
+        if (or) c->at++;
+        if (FAULT == 60 && or && (c->at == c->n || next(c, ')'))) emit(c, 1, 0, 0);
+        else if (!(right ? joined(c, level) : level == 0 ? joined(c, 1) : item(c))) return 0;
+        join(c, or ? 3 : 4, left);
+        if (right) break;
+    }
+    return 1;
+}
+
+uint64_t trace_compile(const uint8_t *text, size_t text_len, uint8_t *out, size_t out_len) {
+    cm c = {text, text_len, 0, 0, 0, {0}};
+    if (text_len > (FAULT == 61 ? 4097 : FAULT == 62 ? 4095 : 4096)) return refuse(15, 0);
+    int right = joined(&c, 0) && c.at == c.n;
+    if (FAULT == 77 && !right && out_len && c.count) out[0] = c.out[0];
+    if (FAULT == 49 && c.count > 255) return refuse(16, 0);
+    if (FAULT == 78 && c.count <= 255 && out_len < 4 * c.count) return refuse(11, 4 * c.count);
+    if (!right) return refuse(15, 0);
+    if (FAULT == 67 && out_len < 4 * c.count) return refuse(11, 4 * c.count);
+    if (c.count > (FAULT == 79 ? 254 : FAULT == 80 ? 256 : 255)) return refuse(16, FAULT == 81 ? c.count : 0);
+    if (out_len < 4 * c.count || (FAULT == 82 && out_len == 4 * c.count)) return refuse(11, FAULT == 50 ? c.count : 4 * c.count);
+    memcpy(out, c.out, 4 * (c.count < 255 ? c.count : 255));
+    if (FAULT == 53) memset(out + 4 * c.count, 0, out_len - 4 * c.count);
+    if (FAULT == 83 && out_len > 4 * c.count) out[4 * c.count] = 0;
+    return c.count;
+}

@@ -1,6 +1,6 @@
 //! The lines on the bench of document 01: tables T1 to T4, cases A to J and
-//! the edges. And lines for Other and for empty tagged parts, requests 1 and 2
-//! of document 02.
+//! the edges. And lines for Other, for empty tagged parts and for the notation,
+//! requests 1 to 3 of document 02.
 
 pub const T1: &[u8] = &[
     2, 0x61, 0x61, 1, 2, 0x61, 0x61, 0, 2, 0x62, 0x62, 0, 4, 1, 2, 2, 2, 0x62, 0x62, 0, 2, 0x63,
@@ -30,6 +30,59 @@ const OPTIONAL: &[u8] = &[2, 0x67, 0x67, 0, 1, 0, 0, 0, 3, 0, 1, 1, 2, 0x61, 0x6
 /// a*, tagged 1, in front of b, tagged 2.
 const STAR_FIRST: &[u8] = &[2, 0x61, 0x61, 0, 5, 0, 0, 1, 2, 0x62, 0x62, 2, 4, 1, 2, 0];
 
+/// Texts of the notation and their tables.
+const INSIDE: &[(&str, &[u8])] = &[
+    (
+        "(a#001|(ab)#002|(bc)#003)*",
+        &[
+            2, 0x61, 0x61, 1, 2, 0x61, 0x61, 0, 2, 0x62, 0x62, 0, 4, 1, 2, 2, 3, 0, 3, 0, 2, 0x62,
+            0x62, 0, 2, 0x63, 0x63, 0, 4, 5, 6, 3, 3, 4, 7, 0, 5, 8, 0, 0,
+        ],
+    ),
+    ("a", &[2, 0x61, 0x61, 0]),
+    ("((a))", &[2, 0x61, 0x61, 0]),
+    ("\\a", &[2, 0x61, 0x61, 0]),
+    ("[a-a]", &[2, 0x61, 0x61, 0]),
+    ("()", &[1, 0, 0, 0]),
+    ("(())", &[1, 0, 0, 0]),
+    ("( )", &[2, 0x20, 0x20, 0]),
+    ("\n", &[2, 0x0a, 0x0a, 0]),
+    ("\0", &[2, 0, 0, 0]),
+    ("-", &[2, 0x2d, 0x2d, 0]),
+    ("0", &[2, 0x30, 0x30, 0]),
+    ("\\|", &[2, 0x7c, 0x7c, 0]),
+    ("\\\\", &[2, 0x5c, 0x5c, 0]),
+    ("\\#", &[2, 0x23, 0x23, 0]),
+    ("[#-\\]", &[2, 0x23, 0x5c, 0]),
+    ("[\\-]]", &[2, 0x5c, 0x5d, 0]),
+    ("[]-]]", &[2, 0x5d, 0x5d, 0]),
+    ("[---]", &[2, 0x2d, 0x2d, 0]),
+    ("[[-a]", &[2, 0x5b, 0x61, 0]),
+    ("a#255", &[2, 0x61, 0x61, 255]),
+    ("(a)#007", &[2, 0x61, 0x61, 7]),
+    ("(a#007)", &[2, 0x61, 0x61, 7]),
+    ("()#100", &[1, 0, 0, 100]),
+    ("a#0012", &[2, 0x61, 0x61, 1, 2, 0x32, 0x32, 0, 4, 0, 1, 0]),
+    ("a*#002", &[2, 0x61, 0x61, 0, 5, 0, 0, 2]),
+    ("a#001*#002", &[2, 0x61, 0x61, 1, 5, 0, 0, 2]),
+    ("(a#001*)#002", &[2, 0x61, 0x61, 1, 5, 0, 0, 2]),
+    ("a**", &[2, 0x61, 0x61, 0, 5, 0, 0, 0, 5, 1, 0, 0]),
+    ("(a#001|b)#002", &[2, 0x61, 0x61, 1, 2, 0x62, 0x62, 0, 3, 0, 1, 2]),
+    ("ab*", &[2, 0x61, 0x61, 0, 2, 0x62, 0x62, 0, 5, 1, 0, 0, 4, 0, 2, 0]),
+    ("abc", &[2, 0x61, 0x61, 0, 2, 0x62, 0x62, 0, 4, 0, 1, 0, 2, 0x63, 0x63, 0, 4, 2, 3, 0]),
+    ("a(bc)", &[2, 0x61, 0x61, 0, 2, 0x62, 0x62, 0, 2, 0x63, 0x63, 0, 4, 1, 2, 0, 4, 0, 3, 0]),
+    ("a|b|c", &[2, 0x61, 0x61, 0, 2, 0x62, 0x62, 0, 3, 0, 1, 0, 2, 0x63, 0x63, 0, 3, 2, 3, 0]),
+    ("a|(b|c)", &[2, 0x61, 0x61, 0, 2, 0x62, 0x62, 0, 2, 0x63, 0x63, 0, 3, 1, 2, 0, 3, 0, 3, 0]),
+    ("a|bc", &[2, 0x61, 0x61, 0, 2, 0x62, 0x62, 0, 2, 0x63, 0x63, 0, 4, 1, 2, 0, 3, 0, 3, 0]),
+    ("ab|c", &[2, 0x61, 0x61, 0, 2, 0x62, 0x62, 0, 4, 0, 1, 0, 2, 0x63, 0x63, 0, 3, 2, 3, 0]),
+];
+
+/// Texts outside the grammar, between blanks; none of them holds one.
+const OUTSIDE: &str = "\
+    | * *a a|* a| |a |a| a||b (|a) (a|) (|) (*) ( ) (a a) (() ()) ] a] [ [a [a- [a-b [a-b) [b-a] \
+    [ab] [a+b] [] [a-bc] [\\a-b] \\ a\\ # #001 a# a#0 a#01 a#01a a#a01 a#0a1 a#000 a#256 a#999 a#1 \
+    a#+01 a#-01 a#0:1 a#1/1 a#001#002 (a#001)#002 ((a#001))#002 (a#001)#001 a|#001 (#001) a#001##002";
+
 /// The refusal of that number with detail 0.
 pub const fn refusal(number: u64) -> u64 {
     number << 32
@@ -50,6 +103,7 @@ pub enum Request {
     Spell { table: Vec<u8>, start: u64, reading: Vec<u8> },
     Compare { table: Vec<u8>, start: u64, first: Vec<u8>, second: Vec<u8> },
     Tokens { table: Vec<u8>, start: u64, reading: Vec<u8> },
+    Compile { text: Vec<u8> },
 }
 
 fn read(name: &'static str, table: &[u8], line: &[u8], reading: &[u8]) -> Stated {
@@ -132,7 +186,23 @@ pub fn stated() -> Vec<Stated> {
         number,
         written: vec![],
     };
-    vec![
+    let compile = |name, text: &[u8], number, table: &[u8]| Stated {
+        name,
+        request: Request::Compile { text: text.to_vec() },
+        number,
+        written: table.to_vec(),
+    };
+    let inside = |&(text, table): &(&'static str, &[u8])| {
+        compile(text, text.as_bytes(), table.len() as u64 / 4, table)
+    };
+    let mut texts: Vec<Stated> = INSIDE.iter().map(inside).collect();
+    for text in OUTSIDE.split_whitespace().chain([""]) {
+        texts.push(compile(text, text.as_bytes(), refusal(15), &[]));
+    }
+    texts.push(compile("4,096 bytes", &[0x61; 4096], refusal(16), &[]));
+    texts.push(compile("4,097 bytes", &[0x61; 4097], refusal(15), &[]));
+    texts.push(compile("the highest range", b"[\0-\xff]", 1, &[2, 0, 255, 0]));
+    let mut lines = vec![
         read("A", T1, b"", &[5, 0]),
         read("B", T1, b"ab", &b),
         read("C", T1, b"abc", &c),
@@ -198,13 +268,17 @@ pub fn stated() -> Vec<Stated> {
         tokens("no iteration", STAR_FIRST, &[4, 0, 5, 0, 1, 0x62], &[2, 0, 1]),
         read("one iteration", STAR_FIRST, b"ab", &[4, 0, 5, 1, 1, 0x61, 1, 0x62]),
         tokens("one iteration", STAR_FIRST, &[4, 0, 5, 1, 1, 0x61, 1, 0x62], &[1, 0, 1, 2, 1, 1]),
-    ]
+    ];
+    lines.extend(texts);
+    lines
 }
 
 #[cfg(test)]
 mod tests {
     use super::*;
-    use crate::calls::{trace_check, trace_compare, trace_spell, trace_tokens, Reader};
+    use crate::calls::{
+        trace_check, trace_compare, trace_compile, trace_spell, trace_tokens, Reader,
+    };
     use crate::order::rank;
     use crate::random::{
         all_lines, all_tables, changed_line, damaged_reading, rival, table, Grower, Rng, Room,
@@ -234,6 +308,7 @@ mod tests {
                 Request::Tokens { table, start, reading } => {
                     trace_tokens(table, *start, reading, &mut out)
                 }
+                Request::Compile { text } => trace_compile(text, &mut out),
             };
             let (front, rest) = out.split_at(case.written.len());
             assert_eq!(number, case.number, "{}", case.name);
@@ -254,6 +329,8 @@ mod tests {
         assert_eq!(trace_tokens(T1, 9, &reading, &mut out[..5]), (11 << 32) + 6);
         let between = trace_tokens(BETWEEN, 4, BETWEEN_READING, &mut out[..5]);
         assert_eq!(between, (11 << 32) + 6);
+        assert_eq!(trace_compile(b"ab|c*", &mut out), (11 << 32) + 24);
+        assert_eq!(out, [0; 15]);
     }
 
     #[test]

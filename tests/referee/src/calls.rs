@@ -1,5 +1,6 @@
-//! The five calls as document 01 states them, on slices.
+//! The calls as document 01 and ask 3 of document 02 state them, on slices.
 
+use crate::notation;
 use crate::order;
 use crate::posix;
 use crate::relation;
@@ -108,6 +109,10 @@ pub fn trace_tokens(table: &[u8], start: u64, reading: &[u8], out: &mut [u8]) ->
     pack(tokens(table, start, reading, out))
 }
 
+pub fn trace_compile(text: &[u8], out: &mut [u8]) -> u64 {
+    pack(compile(text, out))
+}
+
 /// Refusals 1 to 6, then 9.
 fn open(table: &[u8], start: u64) -> Result<(Table, usize), Refusal> {
     let table = check(table)?;
@@ -199,4 +204,14 @@ fn walk(table: &Table, k: usize, value: &Value, offset: &mut usize, list: &mut V
             walk(table, r, part, offset, list);
         }
     }
+}
+
+fn compile(text: &[u8], out: &mut [u8]) -> Result<u64, Refusal> {
+    let Some(table) = notation::compile(text) else { return refuse(15, 0) };
+    let m = table.records.len();
+    if m > 255 {
+        return refuse(16, 0);
+    }
+    put(&table.bytes(), out)?;
+    Ok(m as u64)
 }

@@ -44,6 +44,7 @@ extern "C" {
         out: *mut u8,
         out_len: usize,
     ) -> u64;
+    fn trace_compile(text: *const u8, text_len: usize, out: *mut u8, out_len: usize) -> u64;
 }
 
 /// A request with the buffer lent for the answer and the pattern it holds.
@@ -144,6 +145,7 @@ fn expected(reader: &mut Reader, case: &Case, lending: Lending) -> (u64, Vec<u8>
         Request::Tokens { table, start, reading } => {
             calls::trace_tokens(table, *start, reading, &mut out)
         }
+        Request::Compile { text } => calls::trace_compile(text, &mut out),
     };
     (number, out)
 }
@@ -156,6 +158,7 @@ pub fn answer(reader: &mut Reader, case: &Case) -> (u64, Vec<u8>) {
         Request::Read { .. } => 2,
         Request::Spell { .. } => 1,
         Request::Tokens { .. } => 3,
+        Request::Compile { .. } => 4,
     };
     let len = if number >> 32 == 0 { number as usize * width } else { 0 };
     out.truncate(len);
@@ -224,6 +227,14 @@ fn ask(case: &Case, lending: Lending) -> (u64, Vec<u8>, Option<&'static str>) {
             };
             if t != *table || v != *first || w != *second {
                 fault = Some("the table or a reading was changed");
+            }
+            number
+        }
+        Request::Compile { text } => {
+            let t = text.clone();
+            let number = unsafe { trace_compile(t.as_ptr(), t.len(), out.pointer(), out.len()) };
+            if t != *text {
+                fault = Some("the text was changed");
             }
             number
         }

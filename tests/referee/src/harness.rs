@@ -19,6 +19,7 @@ const ANSWERS: &[(&str, &[u64])] = &[
     ("spell", &[0, 1, 2, 3, 4, 5, 6, 9, 11, 12, 13]),
     ("tokens", &[0, 1, 2, 3, 4, 5, 6, 9, 11, 12, 13]),
     ("compare", &[0, 1, 2, 3, 4, 5, 6, 9, 12, 13, 14]),
+    ("compile", &[0, 11, 15, 16]),
 ];
 
 pub struct Harness {
@@ -155,6 +156,7 @@ fn call_name(request: &Request) -> &'static str {
         Request::Spell { .. } => "spell",
         Request::Tokens { .. } => "tokens",
         Request::Compare { .. } => "compare",
+        Request::Compile { .. } => "compile",
     }
 }
 
@@ -181,4 +183,8 @@ pub fn compare(table: &[u8], start: u64, first: &[u8], second: &[u8]) -> Request
 
 pub fn check(table: &[u8]) -> Request {
     Request::Check { table: table.to_vec() }
+}
+
+pub fn compile(text: &[u8]) -> Request {
+    Request::Compile { text: text.to_vec() }
 }

@@ -2,6 +2,7 @@
 //!
 //! referee gate                 all small cases, and random ones of a fixed seed
 //! referee soak SECONDS [SEED]  random rounds until the time is up
+//! referee notation             the part of the gate on Compile
 //! referee stack                deepest nestings on a stack of 1 MiB
 //! referee memcheck             exactly sized buffers, for valgrind
 
@@ -12,24 +13,31 @@ mod memcheck;
 mod sampled;
 mod shrink;
 mod stack;
+mod texts;
 
 use ffi::Lending;
 use harness::Harness;
 use referee::random::Rng;
-use sampled::{round, Size};
+use sampled::Size;
 use std::time::{Duration, Instant};
 
 const GATE_SEED: u64 = 1;
 
+/// What a round is about, and the round.
+type Round = (&'static str, fn(&mut Harness, &mut Rng, Size));
+
+const TABLE: Round = ("table", sampled::round);
+const TEXT: Round = ("text", texts::round);
+
 /// So many rounds, each from a seed of its own.
-fn rounds(h: &mut Harness, size: Size, seed: u64, count: u64) {
+fn rounds(h: &mut Harness, round: Round, size: Size, seed: u64, count: u64) {
     for i in 0..count {
-        one_round(h, size, seed, i);
+        one_round(h, round, size, seed, i);
     }
 }
 
-fn one_round(h: &mut Harness, size: Size, seed: u64, i: u64) {
-    h.from(format!("{size:?} round {i} of seed {seed}"));
+fn one_round(h: &mut Harness, (name, round): Round, size: Size, seed: u64, i: u64) {
+    h.from(format!("{size:?} {name} round {i} of seed {seed}"));
     let mut rng = Rng::new(seed.wrapping_mul(1 << 20).wrapping_add(i * 3 + size as u64));
     round(h, &mut rng, size);
 }
@@ -46,13 +54,35 @@ fn gate() -> bool {
     h.done("all readings of up to 2 records");
     exhaustive::lengths(&mut h);
     h.done("lines of every length");
-    rounds(&mut h, Size::Small, GATE_SEED, 4000);
+    rounds(&mut h, TABLE, Size::Small, GATE_SEED, 4000);
     h.done("random small tables");
-    rounds(&mut h, Size::Medium, GATE_SEED, 250);
+    rounds(&mut h, TABLE, Size::Medium, GATE_SEED, 250);
     h.done("random tables of up to 61 records");
-    rounds(&mut h, Size::Long, GATE_SEED, 16);
+    rounds(&mut h, TABLE, Size::Long, GATE_SEED, 16);
     h.done("random tables of up to 255 records");
+    notation(&mut h);
     h.coverage()
+}
+
+fn notation(h: &mut Harness) {
+    h.from("every byte");
+    texts::bytes(h);
+    h.done("texts with every byte");
+    h.from("all short texts");
+    texts::all(h, texts::BYTES, 6);
+    h.done("all texts of up to 6 bytes");
+    h.from("all texts of a few words");
+    texts::all(h, texts::WORDS, 6);
+    texts::all(h, texts::NEARLY, 5);
+    h.done("all texts of up to 6 words");
+    texts::lengths(h);
+    h.done("texts of every length");
+    rounds(h, TEXT, Size::Small, GATE_SEED, 10_000);
+    h.done("random short texts");
+    rounds(h, TEXT, Size::Medium, GATE_SEED, 2000);
+    h.done("random texts of up to 120 records");
+    rounds(h, TEXT, Size::Long, GATE_SEED, 300);
+    h.done("random texts of up to 4,099 bytes");
 }
 
 fn soak(seconds: u64, seed: u64) {
@@ -65,7 +95,8 @@ fn soak(seconds: u64, seed: u64) {
             1..=10 => Size::Medium,
             _ => Size::Small,
         };
-        one_round(&mut h, size, seed, i);
+        one_round(&mut h, TABLE, size, seed, i);
+        one_round(&mut h, TEXT, size, seed, i);
         i += 1;
     }
     h.done(&format!("soak, {i} rounds of seed {seed}"));
@@ -77,6 +108,7 @@ fn run(arguments: &[String]) -> bool {
     match words[..] {
         ["gate"] if !gate() => std::process::exit(1),
         ["gate"] => {}
+        ["notation"] => notation(&mut Harness::new(Lending::Guarded)),
         ["stack"] => stack::run(),
         ["memcheck"] => memcheck::run(),
         ["soak", seconds] => match number(seconds) {
@@ -99,7 +131,7 @@ fn main() {
     match thread.expect("a thread").join() {
         Ok(true) => {}
         Ok(false) => {
-            eprintln!("usage: referee gate | soak SECONDS [SEED] | stack | memcheck");
+            eprintln!("usage: referee gate | soak SECONDS [SEED] | notation | stack | memcheck");
             std::process::exit(2);
         }
         Err(_) => std::process::exit(1),

@@ -5,6 +5,7 @@ use crate::exhaustive;
 use crate::ffi::Lending;
 use crate::harness::Harness;
 use crate::sampled::{round, Size};
+use crate::texts;
 use referee::random::Rng;
 
 pub fn run() {
@@ -17,4 +18,12 @@ pub fn run() {
         round(&mut h, &mut rng, if i % 8 == 7 { Size::Medium } else { Size::Small });
     }
     h.done("memory, random tables");
+    texts::torn(&mut h);
+    h.done("memory, torn texts");
+    for i in 0..24 {
+        h.from(format!("memory, text round {i}"));
+        let size = [Size::Small, Size::Small, Size::Small, Size::Medium][i % 4];
+        texts::round(&mut h, &mut rng, if i == 23 { Size::Long } else { size });
+    }
+    h.done("memory, random texts");
 }

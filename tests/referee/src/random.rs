@@ -1,5 +1,6 @@
 //! Random tables, readings, lines and damages from a fixed seed.
 
+use crate::notation::SPECIAL;
 use crate::relation;
 use crate::table::{check, Kind, Letter, Record, Table};
 use crate::value::Value;
@@ -126,6 +127,143 @@ pub fn table(rng: &mut Rng, records: usize) -> Table {
     let table = Table { records: list };
     debug_assert_eq!(check(&table.bytes()), Ok(table.clone()));
     table
+}
+
+/// A table as Compile writes it, of the given number of records: each side
+/// whole, left before right, the root last.
+pub fn post_order(rng: &mut Rng, records: usize) -> Table {
+    let mut table = Table { records: vec![] };
+    let (style, star_in, tag_in) = (rng.below(4), rng.choose(&[2, 5, 30]), rng.choose(&[2, 6, 30]));
+    side(rng, records, style, star_in, tag_in, &mut table);
+    debug_assert!(records > 255 || check(&table.bytes()) == Ok(table.clone()));
+    table
+}
+
+/// One side of so many records; gives its own record. The styles: combs to the
+/// left, to the right, and sides of any sizes.
+fn side(
+    rng: &mut Rng,
+    records: usize,
+    style: usize,
+    star_in: usize,
+    tag_in: usize,
+    table: &mut Table,
+) -> usize {
+    let kind = if records == 1 {
+        match rng.below(8) {
+            0 => Kind::Empty,
+            1 => Kind::Letter(range(rng)),
+            _ => {
+                let any = rng.byte();
+                let c = rng.choose(&[b'a', b'a', b'b', b'0', b'1', b'-', b'(', b'|', b'\\', any]);
+                Kind::Letter(Letter::range(c, c))
+            }
+        }
+    } else if records == 2 || rng.once_in(star_in) {
+        Kind::Star(side(rng, records - 1, style, star_in, tag_in, table))
+    } else {
+        let left = match style {
+            0 => records - 2,
+            1 => 1,
+            _ => 1 + rng.below(records - 2),
+        };
+        let a = side(rng, left, style, star_in, tag_in, table);
+        let b = side(rng, records - 1 - left, style, star_in, tag_in, table);
+        rng.choose(&[Kind::Or(a, b), Kind::Seq(a, b)])
+    };
+    let tag = if rng.once_in(tag_in) { rng.choose(&[1, 9, 10, 99, 100, 255]) } else { 0 };
+    table.records.push(Record { kind, tag });
+    table.records.len() - 1
+}
+
+fn range(rng: &mut Rng) -> Letter {
+    let (a, b) = if rng.once_in(2) {
+        (rng.choose(b"#()*-[\\]|"), rng.choose(b"#()*-[\\]|"))
+    } else {
+        (rng.byte(), rng.byte())
+    };
+    Letter::range(a.min(b), a.max(b))
+}
+
+/// A text that stands for the table. Once in so many times there is a pair of
+/// parentheses or an escape that it could do without.
+pub fn notation(rng: &mut Rng, table: &Table, noise: usize) -> Vec<u8> {
+    let mut text = Vec::new();
+    print(rng, table, table.records.len() - 1, 0, noise, &mut text);
+    text
+}
+
+/// Prints a record where what binds at least so tightly can stand: 0 for Or, 1
+/// for Seq, 2 for an item.
+fn print(rng: &mut Rng, table: &Table, k: usize, place: usize, noise: usize, text: &mut Vec<u8>) {
+    let Record { kind, tag } = table.records[k];
+    let binds = match kind {
+        Kind::Or(..) => 0,
+        Kind::Seq(..) => 1,
+        _ => 2,
+    };
+    let wraps = |rng: &mut Rng| (0..4).take_while(|_| rng.once_in(noise)).count();
+    let must = binds < if tag == 0 { place } else { 2 };
+    let inside = wraps(rng).max(usize::from(must));
+    let around = if tag == 0 { 0 } else { wraps(rng) };
+    text.extend(vec![b'('; inside + around]);
+    match kind {
+        Kind::Nothing => unreachable!("Nothing has no text"),
+        Kind::Empty => text.extend(b"()"),
+        Kind::Letter(Letter { a, b, .. }) => {
+            if a != b || rng.once_in(4 * noise) {
+                text.extend([b'[', a, b'-', b, b']']);
+            } else if SPECIAL.contains(&a) || rng.once_in(noise) {
+                text.extend([b'\\', a]);
+            } else {
+                text.push(a);
+            }
+        }
+        Kind::Or(a, b) => {
+            print(rng, table, a, 0, noise, text);
+            text.push(b'|');
+            print(rng, table, b, 1, noise, text);
+        }
+        Kind::Seq(a, b) => {
+            print(rng, table, a, 1, noise, text);
+            print(rng, table, b, 2, noise, text);
+        }
+        Kind::Star(a) => {
+            print(rng, table, a, 2, noise, text);
+            text.push(b'*');
+        }
+    }
+    text.extend(vec![b')'; inside]);
+    if tag != 0 {
+        text.extend(format!("#{tag:03}").bytes());
+    }
+    text.extend(vec![b')'; around]);
+}
+
+/// A text by one small change, often near its end.
+pub fn damaged_text(rng: &mut Rng, text: &[u8]) -> Vec<u8> {
+    let mut text = text.to_vec();
+    let len = text.len();
+    let near = if rng.once_in(3) { rng.below(len.min(8) + 1) } else { rng.below(len + 1) };
+    let place = len - near;
+    let any = rng.byte();
+    let byte = rng.choose(&[b'a', b'0', b'1', b'2', b'5', b'9', b'-', b'(', b')', b'|', any]);
+    let byte = if rng.once_in(3) { rng.choose(SPECIAL) } else { byte };
+    match rng.below(7) {
+        0 | 1 if place < len => text[place] = byte,
+        2 if place < len => {
+            text.remove(place);
+        }
+        3 if place + 1 < len => text.swap(place, place + 1),
+        4 => text.truncate(place),
+        5 => {
+            let word =
+                rng.choose(&[&b"#001"[..], b"#256", b"#12", b"[a-b]", b"[b-a]", b"()", b"\\"]);
+            text.splice(place..place, word.iter().copied());
+        }
+        _ => text.insert(place, byte),
+    }
+    text
 }
 
 /// Grows random values of a table's records.

@@ -33,6 +33,9 @@ pub fn shrink(case: &Case, fails: &mut dyn FnMut(&Case) -> bool) -> Case {
 /// Goes through small tables, lines and rivals for a case of the same call
 /// that fails and is smaller than the given one.
 fn search(case: &Case, fails: &mut dyn FnMut(&Case) -> bool) -> Option<Case> {
+    if let Request::Compile { .. } = case.request {
+        return None;
+    }
     let limit = Instant::now() + Duration::from_secs(10);
     let mut found: Option<Case> = None;
     for records in 1..=4 {
@@ -68,7 +71,7 @@ fn small_requests(case: &Case, table: &Table, line: &[u8]) -> Vec<Request> {
     let (bytes, start) = (table.bytes(), k as u64);
     let all: Vec<Vec<u8>> = rivals(table, k, line).iter().map(|v| v.reading()).collect();
     match &case.request {
-        Request::Check { .. } => vec![],
+        Request::Check { .. } | Request::Compile { .. } => vec![],
         Request::Read { .. } => {
             vec![harness::read(&bytes, start, line, work_need(k + 1, line.len()))]
         }
@@ -92,6 +95,7 @@ fn weight(case: &Case) -> (usize, usize, usize, usize) {
             (table, reading.len(), 0)
         }
         Request::Compare { table, first, second, .. } => (table, first.len() + second.len(), 0),
+        Request::Compile { text } => (&vec![], text.len(), 0),
     };
     let plain = table.chunks(4).map(|r| usize::from(r[0] > 2) + usize::from(r.last() != Some(&0)));
     (table.len() + bytes, plain.sum(), work, case.out_len)
@@ -107,6 +111,7 @@ fn parts(case: &Case) -> (Vec<u8>, u64, Vec<Vec<u8>>) {
         Request::Compare { table, start, first, second } => {
             (table.clone(), *start, vec![first.clone(), second.clone()])
         }
+        Request::Compile { text } => (vec![], 0, vec![text.clone()]),
     }
 }
 
@@ -132,6 +137,7 @@ fn with(case: &Case, table: Vec<u8>, start: u64, mut lists: Vec<Vec<u8>>) -> Cas
             let second = lists.remove(1);
             Request::Compare { table, start, first: lists.remove(0), second }
         }
+        Request::Compile { .. } => Request::Compile { text: lists.remove(0) },
     };
     Case { request, ..case.clone() }
 }
@@ -332,9 +338,13 @@ pub fn show(case: &Case) -> String {
         Request::Spell { .. } => ("spell", &["reading"]),
         Request::Tokens { .. } => ("tokens", &["reading"]),
         Request::Compare { .. } => ("compare", &["first", "second"]),
+        Request::Compile { .. } => ("compile", &["text"]),
     };
-    let mut text = format!("call    {call}\ntable   {}\n", hex(&table));
-    if call != "check" {
+    let mut text = format!("call    {call}\n");
+    if call != "compile" {
+        text += &format!("table   {}\n", hex(&table));
+    }
+    if !matches!(call, "check" | "compile") {
         text += &format!("start   {start}\n");
     }
     for (name, bytes) in names.iter().zip(&lists) {
@@ -342,6 +352,9 @@ pub fn show(case: &Case) -> String {
     }
     if let Request::Read { work_len, .. } = &case.request {
         text += &format!("work    {work_len} bytes\n");
+    }
+    if let Request::Compile { text: bytes } = &case.request {
+        text += &format!("as text {}\n", bytes.escape_ascii());
     }
     if !matches!(call, "check" | "compare") {
         text += &format!("buffer  {} bytes\n", case.out_len);

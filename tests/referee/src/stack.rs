@@ -3,7 +3,7 @@
 //! without recursion, so the thread's stack is the library's.
 
 use crate::ffi::Lending;
-use crate::harness::{check, compare, read, spell, tokens, Harness};
+use crate::harness::{check, compare, compile, read, spell, tokens, Harness};
 use referee::bench::refusal;
 use referee::calls::work_need;
 use referee::random::star_nest;
@@ -247,13 +247,80 @@ fn empties(h: &mut Harness) {
     h.put_known(tokens(&table, 253, &reading), 0, 0, &[]);
 }
 
+/// The text in so many pairs of these.
+fn within(open: &[u8], text: &[u8], close: &[u8], pairs: usize) -> Vec<u8> {
+    [&open.repeat(pairs), text, &close.repeat(pairs)].concat()
+}
+
+/// A text and its table, into exactly its length, a longer buffer, and a
+/// shorter one.
+fn compiled(h: &mut Harness, text: &[u8], table: &[u8]) {
+    let m = table.len() as u64 / 4;
+    h.put_known(compile(text), table.len(), m, table);
+    h.put_known(compile(text), table.len() + 5, m, table);
+    h.put_known(compile(text), table.len() - 1, refusal(11) + 4 * m, &[]);
+}
+
+fn turned_away(h: &mut Harness, text: &[u8], number: u64) {
+    h.put_known(compile(text), 1024, refusal(number), &[]);
+}
+
+fn parentheses(h: &mut Harness) {
+    h.from("2,047 parentheses around a byte, and 2,048");
+    compiled(h, &within(b"(", b"a", b")", 2047), &[2, 0x61, 0x61, 0]);
+    compiled(h, &within(b"(", b"\\)", b")", 2047), &[2, 0x29, 0x29, 0]);
+    compiled(h, &within(b"(", b"", b")", 2048), &[1, 0, 0, 0]);
+    turned_away(h, &within(b"(", b"a", b")", 2048), 15);
+    h.from("4,096 bytes of open parentheses, of bars in them, and of closed ones");
+    for (word, times) in
+        [(&b"("[..], 4096), (b"(a", 2048), (b"(|", 2048), (b"(a|", 1365), (b")", 4096)]
+    {
+        turned_away(h, &word.repeat(times), 15);
+    }
+    turned_away(h, &within(b"(", b"|", b"", 4095), 15);
+    turned_away(h, &within(b"(", b"|", b")", 2047), 15);
+    turned_away(h, &within(b"(", b"a", b")", 2047)[1..], 15);
+    turned_away(h, &within(b"(", b"a", b")", 2047)[..4094], 15);
+    turned_away(h, &within(b"(", b"a|", b")", 2047), 15);
+
+    // The nests of Stars and the combs above are the tables of these.
+    let stars = star_nest(LETTERS[0], LEVELS + 1, 0).bytes();
+    h.from("Stars, one behind the other and one in the other");
+    compiled(h, &within(b"", b"a", b"*", 254), &stars);
+    compiled(h, &within(b"(", b"a", b")*", 254), &stars);
+    turned_away(h, &within(b"", b"a", b"*", 255), 16);
+    turned_away(h, &within(b"", b"a", b"*", 4095), 16);
+    turned_away(h, &within(b"", b"", b"*", 4096), 15);
+    turned_away(h, &within(b"(", b"a", b")*", 1365), 16);
+    turned_away(h, &within(b"(", b"a", b")*#001", 511), 16);
+    turned_away(h, &within(b"(", b"a", b")*#001#001", 372), 15);
+    h.from("Or and Seq, one behind the other and one in the other");
+    for (seq, bar) in [(false, &b"|"[..]), (true, b"")] {
+        let kind = if seq { 4 } else { 3 };
+        let next = [bar, b"a"].concat();
+        let mut left = vec![2, 0x61, 0x61, 0];
+        (0..127).for_each(|i| left.extend([2, 0x61, 0x61, 0, kind, 2 * i, 2 * i + 1, 0]));
+        compiled(h, &within(b"", b"a", &next, 127), &left);
+        compiled(h, &within(b"(", b"a", &[&next[..], b")"].concat(), 127), &left);
+        let mut right = [2, 0x61, 0x61, 0].repeat(128);
+        (0..127).for_each(|i| right.extend([kind, 126 - i, 127 + i, 0]));
+        compiled(h, &within(&[b"(a", bar].concat(), b"a", b")", 127), &right);
+        turned_away(h, &within(b"", b"a", &next, 128), 16);
+        turned_away(h, &within(b"", b"a", &next, 4095 / next.len()), 16);
+        turned_away(h, &within(b"(", b"a", &[&next[..], b")"].concat(), 1023), 16);
+        turned_away(h, &within(&[b"(a", bar].concat(), b"a", b")", 1023), 16);
+        turned_away(h, &within(&[b"(a", bar].concat(), b"a", b")", 1023)[..3000], 15);
+    }
+}
+
 pub fn run() {
     type Part = fn(&mut Harness);
-    let parts: [(&str, Part); 4] = [
+    let parts: [(&str, Part); 5] = [
         ("stack of 1 MiB, nests of Stars", stars),
         ("stack of 1 MiB, readings of over 10 MB", millions),
         ("stack of 1 MiB, combs of Or and Seq", combs),
         ("stack of 1 MiB, empty tagged parts", empties),
+        ("stack of 1 MiB, texts of up to 4,097 bytes", parentheses),
     ];
     for (name, part) in parts {
         let thread = std::thread::Builder::new().stack_size(STACK).spawn(move || {

@@ -1,0 +1,16 @@
+-- The notation's laws.
+pub mod Words
+pub mod Complete
+pub mod Sound
+pub mod Records
+pub mod Standing
+pub mod Passing
+mod Ranges
+mod Segments
+mod Laying
+mod Showing
+mod Taking
+mod Walking
+mod Compiling
+pub mod Calls
+pub mod Hold
