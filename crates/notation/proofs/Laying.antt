@@ -15,7 +15,7 @@ use Rattle.notation.specs.Trees.{Tree, alt, cat, many, withTag, tagOf}
 use Rattle.notation.specs.Tables.{size, under, recordsFrom}
 use Rattle.notation.specs.Decision.{Held, none, some, joined}
 use Rattle.notation.specs.Walks.{held, total, layout, markOf, Laid, LastPart, stored, tagStored, joinLeaves, joinCount}
-use Rattle.notation.proofs.Records.{records-length, Rooted, rooted, size-tag}
+use Rattle.notation.proofs.Records.{twoFrom, records-length, Rooted, rooted, size-tag}
 
 pub total-append : (ts us : List Tree) → total (ts ++ us) ≡ total ts + total us
 total-append [] us = sym (zero-add (total us))
@@ -118,9 +118,7 @@ laid-tagged ts t entry out n k c l = go (leb (4 * k + 4) (length out)) refl
 -- a constructor that joins two parts by a record of a kind
 pub record Joins (kind : ℕ) (f : Tree → Tree → ℕ → Tree) : Type 0 where
   pub joined-size : (t u : Tree) → size (f t u 0) ≡ size t + size u + 1
-  pub joined-records :
-      (k : ℕ) (t u : Tree)
-      → recordsFrom k (f t u 0) ≡ recordsFrom k t ++ (recordsFrom (k + size t) u ++ recordBytes kind (k + under t) (k + size t + under u) 0)
+  pub joined-records : (k : ℕ) (t u : Tree) → recordsFrom k (f t u 0) ≡ twoFrom kind k t u 0
 
 pub cat-joins : Joins 4 cat
 cat-joins = record { joined-size = λ t u. omega arith; joined-records = λ k t u. refl }

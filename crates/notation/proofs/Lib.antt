@@ -2,6 +2,7 @@
 pub mod Words
 pub mod Complete
 pub mod Sound
+pub mod Stopping
 pub mod Records
 pub mod Standing
 pub mod Passing

@@ -20,16 +20,16 @@ use Rattle.notation.proofs.Words.{Read, read-letter, read-open, read-cl
 use Rattle.notation.proofs.Complete.{complete}
 
 -- a text that ends in the | behind the alternatives that t stands for
-data Left (u : List ℕ) (t : Tree) : Type 0 where
+pub data Left (u : List ℕ) (t : Tree) : Type 0 where
   left : (s : List ℕ) → u ≡ s ++ bar ∷ [] → Whole s t → Left u t
 
 -- the text of a part held: nothing, or one that the part's tree stands for
-data Holds (F : List ℕ → Tree → Type 0) : List ℕ → Held → Type 0 where
+pub data Holds (F : List ℕ → Tree → Type 0) : List ℕ → Held → Type 0 where
   holds-none : Holds F [] none
   holds-some : {s : List ℕ} {t : Tree} → F s t → Holds F s (some t)
 
 -- the text up to the innermost parenthesis that is open
-data Outer : List ℕ → List Frame → Type 0 where
+pub data Outer : List ℕ → List Frame → Type 0 where
   outer-none : Outer [] []
   outer-more :
       {s v w x : List ℕ} {fs : List Frame} {l r : Held} → Outer v fs → Holds Left w l → Holds Row x r
@@ -37,14 +37,14 @@ data Outer : List ℕ → List Frame → Type 0 where
       → Outer s (frame l r ∷ fs)
 
 -- the text of a state
-data Kept (s : List ℕ) : State → Type 0 where
+pub data Kept (s : List ℕ) : State → Type 0 where
   kept :
       {v w x y : List ℕ} {fs : List Frame} {l r i : Held} → Outer v fs → Holds Left w l → Holds Row x r → Holds Item y i
       → s ≡ v ++ (w ++ (x ++ y))
       → Kept s (state fs l r i)
 
 -- that of the state after a step, if there is one
-abbrev Keeps : List ℕ → Stepped → Type 0
+abbrev pub Keeps : List ℕ → Stepped → Type 0
 Keeps s (on st) = Kept s st
 Keeps s stop = Unit {0}
 
@@ -56,13 +56,13 @@ row-holds {x} (holds-some a) holds-none = rw (append-nil x) (holds-some a)
 row-holds {x} {y} (holds-some a) (holds-some b) = holds-some (row-next x y refl a b)
 
 -- the alternatives with the row that an item ends
-data Made (s : List ℕ) : Held → Type 0 where
+pub data Made (s : List ℕ) : Held → Type 0 where
   made : {t : Tree} → Whole s t → Made s (some t)
 
 next-whole : {w z : List ℕ} {t u : Tree} → Left w t → Row z u → Whole (w ++ z) (alt t u 0)
 next-whole {w} {z} (left s e d) b = whole-next {w = w ++ z} s z (rw e (append-assoc s (bar ∷ []) z)) d b
 
-all-made : {w x y : List ℕ} {l r : Held} {t : Tree} → Holds Left w l → Holds Row x r → Item y t → Made (w ++ (x ++ y)) (allWith l r (some t))
+pub all-made : {w x y : List ℕ} {l r : Held} {t : Tree} → Holds Left w l → Holds Row x r → Item y t → Made (w ++ (x ++ y)) (allWith l r (some t))
 all-made holds-none holds-none b = made (whole-row (row-item b))
 all-made {x = x} {y} holds-none (holds-some a) b = made (whole-row (row-next x y refl a b))
 all-made (holds-some d) holds-none b = made (next-whole d (row-item b))
@@ -99,7 +99,7 @@ tagged-keeps {s} {y = y} {z} {fs} {l} {r} {t} {n} o a b d k e = go (eqb (tagOf t
     go false f = tt
 
 -- each word keeps it
-step-keeps : {c : ℕ} {s z : List ℕ} {w : Word} {st : State} → Read c s w → Kept z st → Keeps (z ++ c ∷ take (later w) s) (step w st)
+pub step-keeps : {c : ℕ} {s z : List ℕ} {w : Word} {st : State} → Read c s w → Kept z st → Keeps (z ++ c ∷ take (later w) s) (step w st)
 step-keeps (read-letter n f) (kept o a b d e) = kept o a (row-holds b d) (holds-some (item-letter f)) (rw e (simp append-assoc))
 step-keeps {c} {z = z} (read-open n) (kept o a b d e) =
     kept (outer-more {s = z ++ c ∷ []} o a (row-holds b d) (rw (e, n) (simp append-assoc))) holds-none holds-none holds-none (simp append-nil)

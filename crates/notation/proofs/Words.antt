@@ -3,12 +3,13 @@
 use Prim.Native.Nat.{ℕ, suc, _+_, _*_, _-_, _≤_, _<_}
 use native.Mathlib.Omega.{arith}
 use mathlib.Core.Path.{_≡_, refl}
-use mathlib.Core.Bool.{Bool, true, false, cond, _&&_, _||_}
+use mathlib.Core.Bool.{Bool, true, false, cond, _||_}
 use mathlib.Core.List.{List, [], _∷_, _++_}
 use borrow.Author.Tests.{ltb-true, leb-true, eqb-true, lt-ltb, le-leb}
 use lib.Dec.{ltb, leb, eqb}
 use lib.ListN.{length, getD, take, drop, length-drop}
 use lib.Seq.{take-suc, take-all}
+use Rattle.table.proofs.Passing.{and-both, or-false-left, or-false-right}
 use Rattle.notation.specs.declared.Word.{Word}
 use Rattle.notation.specs.declared.Word.the-variants.{Letter, Open, Close, Star, Bar, Tag, Bad}
 use Rattle.notation.specs.Grammar.{Letter as LetterText, letter-plain, letter-escaped, letter-range, Tag as TagText, tag-digits}
@@ -26,14 +27,10 @@ pub data Read (c : ℕ) (s : List ℕ) : Word → Type 0 where
   read-tag : {n : ℕ} → 3 ≤ length s → TagText (c ∷ take 3 s) n → Read c s (Tag n)
   read-bad : Read c s Bad
 
--- the tests of a conjunction, and what a digit's says
-both-true : (a b : Bool) → (a && b) ≡ true → (a ≡ true) × (b ≡ true)
-both-true true b e = (refl, e)
-both-true false b e = let z : _≡_ {A = ℕ} 0 1 = cc in absurd (omega arith)
-
+-- what a digit's test says
 digit-said : (c : ℕ) → isDigit c ≡ true → (c ≡ digit (c - 48)) × (c - 48 ≤ 9)
 digit-said c e =
-    let h : (leb 48 c ≡ true) × (leb c 57 ≡ true) = both-true _ _ e in
+    let h : (leb 48 c ≡ true) × (leb c 57 ≡ true) = and-both _ _ e in
     let a : 48 ≤ c = leb-true _ _ (h .0) in
     let b : c ≤ 57 = leb-true _ _ (h .1) in
     omega arith
@@ -69,9 +66,9 @@ module _ (c : ℕ) (s : List ℕ) where
     where
       letter : isRange s ≡ true → Read c s (Letter (getD s 0 0) (getD s 2 0) 4)
       letter t =
-          let a : (ltb 3 (length s) ≡ true) × _ = both-true _ _ t in
-          let b : (eqb (getD s 1 0) hyphen ≡ true) × _ = both-true _ _ (a .1) in
-          let d : (eqb (getD s 3 0) bracket-end ≡ true) × (leb (getD s 0 0) (getD s 2 0) ≡ true) = both-true _ _ (b .1) in
+          let a : (ltb 3 (length s) ≡ true) × _ = and-both _ _ t in
+          let b : (eqb (getD s 1 0) hyphen ≡ true) × _ = and-both _ _ (a .1) in
+          let d : (eqb (getD s 3 0) bracket-end ≡ true) × (leb (getD s 0 0) (getD s 2 0) ≡ true) = and-both _ _ (b .1) in
           let h : 3 < length s = ltb-true _ _ (a .0) in
           let f : 2 < length s = omega arith in
           let x : getD s 1 0 ≡ hyphen = eqb-true _ _ (b .0) in
@@ -84,11 +81,11 @@ module _ (c : ℕ) (s : List ℕ) where
     where
       tag : isTag s ≡ true → Read c s (Tag (numeral s))
       tag t =
-          let a : (ltb 2 (length s) ≡ true) × _ = both-true _ _ t in
-          let b : (isDigit (getD s 0 0) ≡ true) × _ = both-true _ _ (a .1) in
-          let d : (isDigit (getD s 1 0) ≡ true) × _ = both-true _ _ (b .1) in
-          let f : (isDigit (getD s 2 0) ≡ true) × _ = both-true _ _ (d .1) in
-          let g : (leb 1 (numeral s) ≡ true) × (leb (numeral s) 255 ≡ true) = both-true _ _ (f .1) in
+          let a : (ltb 2 (length s) ≡ true) × _ = and-both _ _ t in
+          let b : (isDigit (getD s 0 0) ≡ true) × _ = and-both _ _ (a .1) in
+          let d : (isDigit (getD s 1 0) ≡ true) × _ = and-both _ _ (b .1) in
+          let f : (isDigit (getD s 2 0) ≡ true) × _ = and-both _ _ (d .1) in
+          let g : (leb 1 (numeral s) ≡ true) × (leb (numeral s) 255 ≡ true) = and-both _ _ (f .1) in
           let x : (getD s 0 0 ≡ digit (getD s 0 0 - 48)) × (getD s 0 0 - 48 ≤ 9) = digit-said _ (b .0) in
           let y : (getD s 1 0 ≡ digit (getD s 1 0 - 48)) × (getD s 1 0 - 48 ≤ 9) = digit-said _ (d .0) in
           let z : (getD s 2 0 ≡ digit (getD s 2 0 - 48)) × (getD s 2 0 - 48 ≤ 9) = digit-said _ (f .0) in
@@ -141,15 +138,9 @@ pub record Spells (z : List ℕ) (w : Word) : Type 0 where
   pub long : later w ≡ length tail
   pub at-head : (rest : List ℕ) → wordAt head (tail ++ rest) ≡ w
 
--- the words of the signs, whatever stands behind them
-pub sign-words : (s : List ℕ) → (wordAt opening s ≡ Open) × (wordAt closing s ≡ Close) × (wordAt asterisk s ≡ Star) × (wordAt bar s ≡ Bar)
-unfolding wordAt
-sign-words s = (refl, refl, refl, refl)
-
 -- the tests of a disjunction
 neither : (a b : Bool) → (a || b) ≡ false → (a ≡ false) × (b ≡ false)
-neither false b e = (refl, e)
-neither true b e = let z : _≡_ {A = ℕ} 0 1 = cc in absurd (omega arith)
+neither a b e = (or-false-left a b e, or-false-right a b e)
 
 -- the words of the three kinds of letter
 plain-word : (c : ℕ) (s : List ℕ) → special c ≡ false → wordAt c s ≡ Letter c c 0

@@ -2,7 +2,7 @@
 -- Assumes nothing.
 use Prim.Native.Nat.{ℕ, suc, _≤_}
 use mathlib.Core.Path.{_≡_}
-use mathlib.Core.List.{List}
+use mathlib.Core.List.{List, _++_}
 use lib.ListN.{length}
 use Rattle.table.specs.Records.{count}
 use Rattle.table.specs.Faults.{Passes}
@@ -16,6 +16,12 @@ pub record Text (s : List ℕ) : Type 0 where
   pub tree : Tree
   pub grouped : Whole s tree
   pub short : length s ≤ 4096
+
+-- the text is the beginning of a text of the grammar
+pub record Begins (s : List ℕ) : Type 0 where
+  pub rest : List ℕ
+  pub tree : Tree
+  pub grouped : Whole (s ++ rest) tree
 
 -- the table stands for the tree: it passes Check, and its last record stands for the tree, record by record and tags included, and has its
 -- expression

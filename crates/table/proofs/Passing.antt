@@ -67,7 +67,7 @@ module _ (t : List ℕ) (k : ℕ) where
   pub star-names : kindAt t k ≡ 5 → (namesA t k ≡ true) × (namesB t k ≡ false)
   star-names e = rw e (refl, refl)
 
-and-both : (x y : Bool) → (x && y) ≡ true → (x ≡ true) × (y ≡ true)
+pub and-both : (x y : Bool) → (x && y) ≡ true → (x ≡ true) × (y ≡ true)
 and-both true y e = (refl, e)
 and-both false y e = absurd (true≢false (sym e))
 

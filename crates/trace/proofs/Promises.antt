@@ -8,7 +8,7 @@ use Prim.Native.Nat.{ℕ, _+_, _*_, _≤_, _<_}
 use mathlib.Core.Path.{_≡_}
 use mathlib.Core.List.{List, [], _∷_, _++_, map}
 use mathlib.Core.Logic.{_⊎_, _↔_}
-use lib.ListN.{length, drop}
+use lib.ListN.{length, take, drop}
 use Rattle.regex.specs.Expressions.{Exp}
 use Rattle.regex.specs.Values.{Val, flat}
 use Rattle.regex.specs.Language.{Bytes, L}
@@ -40,9 +40,10 @@ use Rattle.matcher.proofs.Rivals.{read-outranks}
 use Rattle.notation.specs.Trees.{Tree}
 use Rattle.notation.specs.Grammar.{Whole}
 use Rattle.notation.specs.Tables.{size, tableOf}
-use Rattle.notation.specs.Calls.{compileSays, compileLeaves}
-use Rattle.notation.specs.Accepted.{Text, TableFor}
+use Rattle.notation.specs.Calls.{compileSays, compileLeaves, stopsAt}
+use Rattle.notation.specs.Accepted.{Text, Begins, TableFor}
 use Rattle.notation.proofs.Complete.{one-tree}
+use Rattle.notation.proofs.Stopping.{stops-begins, stops-there}
 use Rattle.notation.proofs.Calls.{compile-outside, compile-many, compile-short, compile-writes, compile-gives, compile-table, compile-refused}
 use Rattle.trace.specs.Numbers.{Small}
 use Rattle.trace.specs.SameCalls.{SameCalls}
@@ -213,6 +214,14 @@ compile-result = compile-gives
 -- and has its expression
 pub compile-stands : (s : List ℕ) (x : Text s) → size (x .tree) ≤ 255 → TableFor (x .tree) (tableOf (x .tree))
 compile-stands = compile-table
+
+-- Beyond request 3: the offset that `tracerules` gives for a text outside the grammar, of at most 4,096 bytes. Up to it the text is the beginning of
+-- a text of the grammar; with the next five bytes, as many as a word has at most, it is not
+pub stops-readable : (s : List ℕ) → length s ≤ 4096 → Begins (take (stopsAt s) s)
+stops-readable = stops-begins
+
+pub stops-unreadable : (s : List ℕ) → length s ≤ 4096 → stopsAt s + 5 ≤ length s → ¬ (Begins (take (stopsAt s + 5) s))
+stops-unreadable = stops-there
 
 -- Beyond the demands: a table that passes may be lent up to its start record alone. It passes too, with the start record as its last, each call
 -- says and leaves the same by it, and Read needs no more work area

@@ -1,4 +1,4 @@
-//! The calls as document 01 and ask 3 of document 02 state them, on slices.
+//! The calls as document 01 and request 3 of document 02 state them, on slices.
 
 use crate::notation;
 use crate::order;

@@ -1,4 +1,4 @@
-//! The notation of document 02, ask 3, by spans: which spans of a text are
+//! The notation of document 02, request 3, by spans: which spans of a text are
 //! items, rows and wholes, each by the rules of the grammar one by one, what
 //! tree they stand for, and in how many ways. A text is in the grammar if it
 //! is a whole from end to end. No state goes along the text: each rule looks
