@@ -50,7 +50,7 @@ pub struct Walked {
 fn is_digit(c: u8) -> bool
     ensures { λ r. ⌜ r ≡ isDigit c ⌝ }
 {
-    48 <= c && c <= 57
+    b'0' <= c && c <= b'9'
 }
 
 // The value of a digit.
@@ -58,10 +58,10 @@ fn digit_value(c: u8) -> usize
     ensures value { λ r. ⌜ r ≡ c - 48 ⌝ }
     ensures bound { λ r. ⌜ r ≤ 207 ⌝ }
 {
-    if c < 48 {
+    if c < b'0' {
         return 0;
     }
-    (c - 48) as usize
+    (c - b'0') as usize
 }
 
 // The word behind a backslash.
@@ -82,10 +82,10 @@ fn range_word(rest: &[u8]) -> Word
     if rest.len() < 4 {
         return Word::Bad;
     }
-    if rest[1] != 45 {
+    if rest[1] != b'-' {
         return Word::Bad;
     }
-    if rest[3] != 93 {
+    if rest[3] != b']' {
         return Word::Bad;
     }
     let low = rest[0];
@@ -135,11 +135,11 @@ fn byte_word(c: u8) -> Word
     ensures { λ r. ⌜ r ≡ byteWord c ⌝ }
 {
     match c {
-        124 => Word::Bar,
-        42 => Word::Star,
-        40 => Word::Open,
-        41 => Word::Close,
-        93 => Word::Bad,
+        b'|' => Word::Bar,
+        b'*' => Word::Star,
+        b'(' => Word::Open,
+        b')' => Word::Close,
+        b']' => Word::Bad,
         _ => Word::Letter(c, c, 0),
     }
 }
@@ -150,13 +150,13 @@ fn word_at(text: &[u8]) -> Word
     ensures { λ r. ⌜ r ≡ wordAt (getD (now (text .entry)) 0 0) (drop 1 (now (text .entry))) ⌝ }
 {
     let c = text[0];
-    if c == 92 {
+    if c == b'\\' {
         return escaped_word(&text[1..]);
     }
-    if c == 91 {
+    if c == b'[' {
         return range_word(&text[1..]);
     }
-    if c == 35 {
+    if c == b'#' {
         return tag_word(&text[1..]);
     }
     byte_word(c)
