@@ -1,7 +1,6 @@
 // Reads and writes of a file descriptor: one that a signal interrupts is tried again, one that would block is waited for, and a read that failed
 // is not the end of the input.
 
-ghost use Prim.Native.Nat.{_≤_};
 ghost use mathlib.Core.Path.{_≡_};
 ghost use lib.ListN.{length};
 ghost use Rattle.descriptors.specs.Reads.{failedRead, Inside};

@@ -54,7 +54,7 @@ refused-small : (t : List ℕ) (n d : ℕ) → RefusedFor t n d → Small (refus
 refused-small t n d (of-size p q b) = (omega arith, omega arith, omega arith)
 refused-small t n d (of-record f) =
     let x : (1 ≤ n) × (n ≤ 6) = table-number t n d (of-record f) in
-    (x .0, omega arith, omega (arith, f .inside, short-table t (f .size-right)))
+    (omega (arith, x .0), omega arith, omega (arith, f .inside, short-table t (f .size-right)))
 
 -- Check's answer
 pub small-checked : (t : List ℕ) → Small (checked t)
