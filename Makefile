@@ -185,6 +185,7 @@ SEED = 7
 soak: lib $(REFEREE)
 	@$(REFEREE) soak $(SECONDS) $(SEED)
 
-# Our read and tokens against other matchers, and our compile against theirs: microseconds and ratios, in one run.
+# Our read and tokens against other matchers, each call by itself, the worst tables, and our compile against theirs: microseconds and
+# ratios, in one run.
 bench: lib
 	@bash bench/run.sh

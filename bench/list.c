@@ -1,18 +1,23 @@
 /*
- * Without an argument: the work loads, one on a line: number, bytes, records, name. With a number: that load's ERE, its line, and for
- * each token the tag and the capture group.
+ * list PART: the work loads of that part, one on a line: number, bytes, records, name. list NUMBER: that load's ERE, its line, and for each
+ * token the tag and the capture group.
  */
+#include <ctype.h>
 #include <stdio.h>
 #include <stdlib.h>
+#include <string.h>
 
 #include "loads.h"
 
 int main(int argc, char **argv)
 {
     static struct load l;
-    if (argc < 2) {
+    if (argc != 2)
+        return 2;
+    if (!isdigit((unsigned char)argv[1][0])) {
         for (int n = 0; load_get(n, &l); n++)
-            printf("%d %zu %zu %s\n", n, l.line_len, l.records, l.name);
+            if (strcmp(l.part, argv[1]) == 0)
+                printf("%d %zu %zu %s\n", n, l.line_len, l.records, l.name);
         return 0;
     }
     if (!load_get(atoi(argv[1]), &l))

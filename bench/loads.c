@@ -213,58 +213,96 @@ static int ambiguous_four(void)
     return SEQ_OF(tag(star(lit("a"))), tag(star(lit("a"))), tag(star(lit("a"))), tag(star(lit("a"))));
 }
 
-#define LINE_SHORT "12:34:56 t=21.5 ok"
-#define LINE_MIDDLE "12:34:56 boiler1=71.5 outside=-12.3 mode=heating 10.0.12.7:502 pump 12 restarted"
-#define LINE_LONG                                                                                                                    \
-    "12:34:56 boiler1=71.5 outside=-12.3 return2=48.9 mode=heating 192.168.10.17:502 > 10.0.12.7 "                                   \
+/* A word, so many optional words, and a remark: 9 records and 9 more for each optional word. */
+static int optional_words;
+static int words_from(int n) { return n == 0 ? tag(remark()) : seq(opt(SEQ_OF(SPACE, tag(name()))), words_from(n - 1)); }
+static int word_list(void) { return SEQ_OF(tag(name()), words_from(optional_words)); }
+
+#define REMARK                                                                                                                       \
     "pump 3 restarted by hand after a drop in pressure; the valve on the return line stays half open until the next "                \
     "service, see the sheet on the door (cabinet, room 4)"
+#define LINE_SHORT "12:34:56 t=21.5 ok"
+#define LINE_MIDDLE "12:34:56 boiler1=71.5 outside=-12.3 mode=heating 10.0.12.7:502 pump 12 restarted"
+#define LINE_LONG "12:34:56 boiler1=71.5 outside=-12.3 return2=48.9 mode=heating 192.168.10.17:502 > 10.0.12.7 " REMARK
+#define LINE_ENDLESS "12:34:56 t=2.5 " REMARK "; " REMARK
+#define LINE_WORDS "pump restarted by hand after a drop in pressure the valve on the return line is half open"
 
-/* What is done to the line before it is read. */
-enum change { NONE, FIRST, LAST, FILL };
-static const struct {
+/* What is done to the line before it is read: a byte that no letter of the rule holds there, so many bytes a, or the line's first bytes alone. */
+enum change { NONE, FIRST, INSIDE, LAST, FILL, CUT };
+struct source {
     const char *name;
     int (*tree)(void);
     enum change change;
-    size_t fill;                /* so many bytes a */
+    size_t size;                /* of FILL and CUT */
     const char *line;
-} loads[] = {
+};
+static const struct source loads[] = {
     {"ordinary short", ordinary_short, NONE, 0, LINE_SHORT},
     {"ordinary middle", ordinary_middle, NONE, 0, LINE_MIDDLE},
     {"ordinary long", ordinary_long, NONE, 0, LINE_LONG},
-    {"refused at once, short", ordinary_short, FIRST, 0, LINE_SHORT},
-    {"refused at once, middle", ordinary_middle, FIRST, 0, LINE_MIDDLE},
-    {"refused at once, long", ordinary_long, FIRST, 0, LINE_LONG},
-    {"refused at the end, short", ordinary_short, LAST, 0, LINE_SHORT},
-    {"refused at the end, middle", ordinary_middle, LAST, 0, LINE_MIDDLE},
-    {"refused at the end, long", ordinary_long, LAST, 0, LINE_LONG},
+#define REFUSED(text, change)                                                                                                        \
+    {text ", short", ordinary_short, change, 0, LINE_SHORT}, {text ", middle", ordinary_middle, change, 0, LINE_MIDDLE},             \
+        {text ", long", ordinary_long, change, 0, LINE_LONG}
+    REFUSED("refused at once", FIRST),
+    REFUSED("refused inside", INSIDE),
+    REFUSED("refused at the end", LAST),
 #define AMBIGUOUS(text, tree) {text, tree, FILL, 16, ""}, {text, tree, FILL, 64, ""}, {text, tree, FILL, 255, ""}
     AMBIGUOUS("(a|aa)*", ambiguous_or),
     AMBIGUOUS("(a*)*", ambiguous_star),
     AMBIGUOUS("((a|aa)*|(aa|a)*)*", ambiguous_both),
     AMBIGUOUS("(a*)(a*)(a*)(a*)", ambiguous_four),
 };
+static const size_t lengths[] = {16, 32, 48, 64, 96, 128, 160, 192, 224, 255};
+static const int words[] = {0, 1, 3, 6, 9, 13, 17, 21, 24, 27};
+#define COUNT(array) (int)(sizeof(array) / sizeof *(array))
+
+/* The source of load n, and its part. Returns 0 if there is none. */
+static int source_get(int n, struct source *s, const char **part)
+{
+    if (n < 0)
+        return 0;
+    if (n < COUNT(loads)) {
+        *part = "loads", *s = loads[n];
+        return 1;
+    }
+    n -= COUNT(loads);
+    if (n < COUNT(lengths)) {
+        *part = "length", *s = (struct source){"a remark at the end", ordinary_short, CUT, lengths[n], LINE_ENDLESS};
+        return 1;
+    }
+    n -= COUNT(lengths);
+    if (n < COUNT(words)) {
+        *part = "records", *s = (struct source){"optional words", word_list, CUT, 80, LINE_WORDS};
+        optional_words = words[n];
+        return 1;
+    }
+    return 0;
+}
 
 int load_get(int n, struct load *l)
 {
-    if (n < 0 || (size_t)n >= sizeof loads / sizeof *loads)
-        return 0;
+    struct source s;
     memset(l, 0, sizeof *l);
-    l->name = loads[n].name;
-    l->refused = loads[n].change == FIRST || loads[n].change == LAST;
+    if (!source_get(n, &s, &l->part))
+        return 0;
+    l->name = s.name;
+    l->refused = s.change == FIRST || s.change == INSIDE || s.change == LAST;
 
-    l->line_len = loads[n].change == FILL ? loads[n].fill : strlen(loads[n].line);
-    if (l->line_len > TRACE_MAX_LINE)
+    size_t given = strlen(s.line);
+    l->line_len = s.change == FILL || s.change == CUT ? s.size : given;
+    if (l->line_len > TRACE_MAX_LINE || (s.change == CUT && given < s.size))
         abort();
     memset(l->line, 'a', l->line_len);
-    memcpy(l->line, loads[n].line, strlen(loads[n].line));
-    if (loads[n].change == FIRST)
+    memcpy(l->line, s.line, given < l->line_len ? given : l->line_len);
+    if (s.change == FIRST)
         l->line[0] = 'x';
-    if (loads[n].change == LAST)
+    if (s.change == INSIDE)
+        l->line[l->line_len / 2] = '\t';
+    if (s.change == LAST)
         l->line[l->line_len - 1] = '\t';
 
     node_count = tag_count = 0;
-    int root = loads[n].tree();
+    int root = s.tree();
     write_table(l, root);
     for (int all = 0; all < 2; all++) {
         struct text t = {l, all ? l->ere : l->re2, 0, all, 0};

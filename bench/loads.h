@@ -12,6 +12,7 @@ extern "C" {
 enum { MAX_TOKENS = 32, MAX_TEXT = 2048 };
 
 struct load {
+    const char *part;           /* loads, or a series: length (one rule, longer and longer lines), records (one line, larger and larger rules) */
     const char *name;
     int refused;                /* the line is one that the expression does not spell */
     char line[256];             /* ended by a 0 byte */

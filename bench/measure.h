@@ -4,6 +4,8 @@
 
 #include <time.h>
 
+enum { REPEATS = 7 };
+
 static double seconds(void)
 {
     struct timespec t;
@@ -11,15 +13,25 @@ static double seconds(void)
     return (double)t.tv_sec + (double)t.tv_nsec * 1e-9;
 }
 
+/* Puts a number into its place among count sorted ones. */
+static void insert(double *sorted, int count, double number)
+{
+    for (; count > 0 && sorted[count - 1] > number; count--)
+        sorted[count] = sorted[count - 1];
+    sorted[count] = number;
+}
+
 /*
- * Microseconds for one call: the best of 5 repeats, each with as many rounds as take about ms milliseconds. No repeat is started after
- * 5 seconds in all.
+ * Microseconds for one call: the median of 7 repeats, each with as many rounds as take about ms milliseconds. No repeat is started after
+ * 5 seconds in all; if none is, the time is that of the rounds by which their number was found.
  */
 static double measure(void (*call)(void *), void *arg, double ms)
 {
-    double begin = seconds(), best = 0, took;
+    double begin = seconds(), each = 0, times[REPEATS];
     long rounds = 1;
-    for (int repeat = -1; repeat < 5; repeat++) {
+    int count = 0;
+    for (int repeat = -1; repeat < REPEATS; repeat++) {
+        double took;
         if (repeat >= 0 && seconds() - begin > 5)
             break;
         for (;;) {
@@ -31,16 +43,16 @@ static double measure(void (*call)(void *), void *arg, double ms)
                 break;
             rounds *= 4;
         }
-        double each = took / (double)rounds;
-        if (best == 0 || each < best)
-            best = each;
-        if (repeat < 0) {
+        each = took / (double)rounds;
+        if (repeat >= 0) {
+            insert(times, count++, each);
+        } else {
             rounds = (long)(ms * 1e-3 / each);
             if (rounds < 1)
                 rounds = 1;
         }
     }
-    return best * 1e6;
+    return (count ? (times[(count - 1) / 2] + times[count / 2]) / 2 : each) * 1e6;
 }
 
 #endif

@@ -1,6 +1,6 @@
 /*
- * ours LOAD MS: prints the microseconds of trace_read and trace_tokens, those of clearing the work area alone, and the last token span
- * of each tag.
+ * ours LOAD MS: prints the microseconds of trace_read and trace_tokens, and the last token span of each tag.
+ * ours LOAD MS CALL: prints the microseconds of that call alone: Check, Read, Spell, Compare (the reading with itself) or Tokens.
  */
 #include <stdio.h>
 #include <stdlib.h>
@@ -11,7 +11,7 @@
 #include "trace.h"
 
 static struct load load;
-static uint8_t *work, *reading, *tokens;
+static uint8_t *work, *reading, *tokens, spelled[TRACE_MAX_LINE];
 static size_t work_len, reading_len, tokens_len;
 static uint64_t answer;
 
@@ -26,11 +26,57 @@ static void read_line(void *arg)
         answer = trace_tokens(load.table, 4 * load.records, start, reading, 2 * (size_t)answer, tokens, tokens_len);
 }
 
-static void clear_work(void *arg)
+/* Each call by itself, on the reading of the line. */
+static size_t read_records;
+#define TABLE load.table, 4 * load.records
+#define READING reading, 2 * read_records
+
+static void only_check(void *arg)
 {
     (void)arg;
-    memset(work, 0, work_len);
-    __asm__ volatile("" : : "r"(work) : "memory");
+    answer = trace_check(TABLE);
+}
+
+static void only_read(void *arg)
+{
+    (void)arg;
+    answer = trace_read(TABLE, load.records - 1, (const uint8_t *)load.line, load.line_len, work, work_len, reading, reading_len);
+}
+
+static void only_spell(void *arg)
+{
+    (void)arg;
+    answer = trace_spell(TABLE, load.records - 1, READING, spelled, sizeof spelled);
+}
+
+static void only_compare(void *arg)
+{
+    (void)arg;
+    answer = trace_compare(TABLE, load.records - 1, READING, READING);
+}
+
+static void only_tokens(void *arg)
+{
+    (void)arg;
+    answer = trace_tokens(TABLE, load.records - 1, READING, tokens, tokens_len);
+}
+
+static const struct {
+    const char *name;
+    void (*call)(void *);
+} calls[] = {{"Check", only_check}, {"Read", only_read}, {"Spell", only_spell}, {"Compare", only_compare}, {"Tokens", only_tokens}};
+
+/* Times the call with this name. Only Check may be asked of a line that is refused. */
+static int time_call(const char *name, double ms)
+{
+    only_read(NULL);
+    read_records = trace_is_refused(answer) ? 0 : (size_t)answer;
+    for (size_t i = 0; i < sizeof calls / sizeof *calls; i++)
+        if (strcmp(name, calls[i].name) == 0) {
+            printf("%.4f\n", measure(calls[i].call, NULL, ms));
+            return trace_is_refused(answer) || (calls[i].call == only_compare && answer != 0);
+        }
+    return 2;
 }
 
 /* No later token has the same tag. */
@@ -44,7 +90,7 @@ static int is_last(size_t i)
 
 int main(int argc, char **argv)
 {
-    if (argc != 3 || !load_get(atoi(argv[1]), &load))
+    if (argc < 3 || argc > 4 || !load_get(atoi(argv[1]), &load))
         return 2;
     double ms = atof(argv[2]);
     work = malloc(work_len = trace_work_size(load.records, load.line_len));
@@ -56,8 +102,9 @@ int main(int argc, char **argv)
         fprintf(stderr, "the table of load %s is refused\n", argv[1]);
         return 1;
     }
-    double clear = measure(clear_work, NULL, ms);
-    printf("%.4f %.4f\n", measure(read_line, NULL, ms), clear);
+    if (argc == 4)
+        return time_call(argv[3], ms);
+    printf("%.4f\n", measure(read_line, NULL, ms));
     if (trace_is_refused(answer) != load.refused || (load.refused && trace_refusal(answer) != TRACE_REFUSED_NO_READING)) {
         fprintf(stderr, "load %s: refusal %u\n", argv[1], trace_refusal(answer));
         return 1;

@@ -1,15 +1,16 @@
 #!/bin/bash
-# Times our read + tokens against regular expression engines with capture groups, and our compile against the regcomp of those that have one.
+# Times our read + tokens against regular expression engines with capture groups, our calls one by one, the worst tables that are known, our
+# time against the line's length and the table's size, and our compile against the regcomp of the engines that have one.
 # Run make lib first (make bench does).
-#   bash bench/run.sh             prints a table
-#   bash bench/run.sh --markdown  prints the text of docs/BENCH.md
-# With all peers it takes about 6 minutes. BENCH_MS: milliseconds of one repeat (200). BENCH_CUT: seconds until a peer is cut (10).
+#   bash bench/run.sh             prints the tables
+#   bash bench/run.sh --markdown  prints the text of docs/BENCH.md and writes its pictures, docs/length.svg and docs/records.svg
+# With all peers it takes about 4 minutes. BENCH_MS: milliseconds of two repeats (200). BENCH_CUT: seconds until a peer is cut (10).
 # Every peer is a process of its own: engines replace one another's symbols when they are linked together.
 set -u
 cd "$(dirname "$0")/.." || exit 1
 export LC_ALL=C.UTF-8
 MARKDOWN=$([ "${1-}" = --markdown ] && echo yes)
-MS=${BENCH_MS:-200}
+MS=$((${BENCH_MS:-200} / 2))
 CUT=${BENCH_CUT:-10}
 CC=${CC:-gcc}
 CXX=${CXX:-g++}
@@ -26,6 +27,7 @@ version() { dpkg-query -W -f '${Version}' "$1" 2>/dev/null || echo "version not 
 mkdir -p $OUT/hs
 $CC $FLAGS -c bench/loads.c -o $OUT/loads.o && $CC $FLAGS bench/list.c $OUT/loads.o -o $OUT/list &&
     $CC $FLAGS bench/ours.c $OUT/loads.o $LIB -o $OUT/ours && $CC $FLAGS bench/posix.c $OUT/loads.o -o $OUT/glibc &&
+    $CC $FLAGS bench/worst.c $LIB -o $OUT/worst &&
     $CC $FLAGS bench/compile.c $LIB -o $OUT/compile && $CC $FLAGS -DUSE_GLIBC bench/compile.c -o $OUT/compile-glibc || fail "build"
 peers=(glibc)
 compilers=(glibc)
@@ -65,7 +67,7 @@ run() {
 }
 
 # Numbers with few digits; a ratio of two numbers.
-us() { awk -v x="$1" 'BEGIN { printf x < 10 ? "%.2f" : x < 1000 ? "%.1f" : "%.0f", x }'; }
+us() { awk -v x="$1" 'BEGIN { printf x < 1 ? "%.3f" : x < 10 ? "%.2f" : x < 1000 ? "%.1f" : "%.0f", x }'; }
 ratio() {
     awk -v x="$1" -v y="$2" 'BEGIN {
         r = x / y; digits = r < 100; for (s = r; s < 1 && digits < 6; s *= 10) digits++
@@ -86,11 +88,10 @@ ask() {
     done
 }
 
-# Our time of two, the spread in percent, and the better one of the second numbers.
-better() {
-    printf '%s\n' "${1%%$'\n'*} ${2%%$'\n'*}" | awk '{
-        second = NF / 2 + 1; low = $1 < $second ? $1 : $second; high = $1 < $second ? $second : $1
-        print low, 100 * (high / low - 1), NF == 2 ? 0 : $2 < $4 ? $2 : $4 }'
+# Our time, the lower of two, and how far they are apart in percent.
+both() {
+    echo "${1%%$'\n'*} ${2%%$'\n'*}" |
+        awk '{ low = $1 < $2 ? $1 : $2; high = $1 < $2 ? $2 : $1; print low, 100 * (high / low - 1) }'
 }
 
 # One row of a table: the first cell to the left, the others to the right, as wide as in the head.
@@ -121,6 +122,57 @@ heading() {
     [ -z "$MARKDOWN" ] || echo "$line"
 }
 
+# section TITLE: a title and the text from the input. Only the page keeps the backquotes.
+section() {
+    echo
+    if [ "$MARKDOWN" ]; then
+        printf '## %s\n\n' "$1"
+        cat
+    else
+        printf '%s\n' "$1"
+        tr -d '`'
+    fi
+    echo
+}
+
+# A name that is an expression gets backquotes in the page; in a cell of a table its bars are escaped.
+shown() { if [ "$MARKDOWN" ] && [[ $1 == *['*|']* ]]; then echo "\`$1\`"; else echo "$1"; fi; }
+cell() { local text; text=$(shown "$1"); [ "$MARKDOWN" ] && text=${text//|/\\|}; echo "$text"; }
+percent() { printf '%.1f %%' "$1"; }
+
+# timed N: our time of load n and the spread; cells: the peers' times with their ratios to ours, marked where the spans differ.
+timed() {
+    local one two spans i time mark
+    one=$($OUT/ours "$1" "$MS") || fail "load $1"
+    ask "" "$1" "${@:2}"
+    two=$($OUT/ours "$1" "$MS") || fail "load $1"
+    spans=${one#*$'\n'}
+    read -r ours spread < <(both "$one" "$two")
+    for i in "${!cells[@]}"; do
+        [ "${cells[i]}" = cut ] || [ "${cells[i]}" = failed ] && continue
+        time=${cells[i]%%$'\n'*}
+        mark=
+        [ "${cells[i]#*$'\n'}" = "$spans" ] || { mark=' ≠' different=$((different + 1)); }
+        cells[i]="$(us "$time") ($(ratio "$time" "$ours"))$mark"
+    done
+}
+
+# series PART COLUMN TITLE AXIS: a table of the loads of that part, and in the page its picture. COLUMN: bytes or records, what is chosen.
+series() {
+    local n bytes records data=$OUT/$1.txt
+    [ -z "$MARKDOWN" ] || printf '![%s](%s.svg)\n\n' "$3" "$1"
+    head=("$2" "ours µs" spread)
+    wide=(7 8 7)
+    heading glibc
+    while read -r n bytes records _; do
+        timed "$n" glibc
+        row "${!2}" "$(us "$ours")" "$(percent "$spread")" "${cells[@]}"
+        echo "${!2} $ours ${cells[0]%% *}" >&3
+    done < <($OUT/list "$1") 3>"$data"
+    [ -z "$MARKDOWN" ] ||
+        awk -v title="$3" -v across="$4" -v up="microseconds for one line" -v names="ours glibc" -f bench/plot.awk "$data" >"docs/$1.svg"
+}
+
 peer_lists() {
     echo "Peers found:"
     [ -z "$MARKDOWN" ] || echo
@@ -136,18 +188,19 @@ if [ "$MARKDOWN" ]; then
     cat <<END
 # Benchmark
 
-Our read + tokens against what a user would pick instead: regular expression engines with capture groups, one process for each. And below
-our compile against the engines' own. To repeat it: \`make bench\` prints the tables; \`bash bench/run.sh --markdown >docs/BENCH.md\` writes
-this page. glibc is always there; the Debian packages libtre-dev, libre2-dev, and ghc with libghc-regex-tdfa-dev bring the others.
+Our read + tokens against what a user would pick instead: regular expression engines with capture groups, one process for each. Below are
+refused lines, each call by itself, the worst tables, the time against the line's length and the table's size, and our compile against
+the engines' own. To repeat it: \`make bench\` prints the tables; \`bash bench/run.sh --markdown >docs/BENCH.md\` writes this page and its
+pictures. glibc is always there; the Debian packages libtre-dev, libre2-dev, and ghc with libghc-regex-tdfa-dev bring the others.
 
 - Each work load is one expression tree in \`bench/loads.c\`, written out as our table and as an anchored POSIX expression (for RE2 with
   capture groups for the tokens only). A token is a capture group that is not empty. Inside a star a group keeps the last
   iteration, so the last token of each tag is compared.
-- Times are microseconds for one line: the best of 5 repeats of about $MS ms. Checking the table and compiling the expression are outside.
+- Times are microseconds for one line: the median of 7 repeats of about $MS ms. Compiling the expression is outside; our calls check the
+  table each time.
 - The ratio is the peer's time through ours: above 1 we are faster, below 1 the peer is.
 - ≠: the peer's spans differ from our tokens. cut: no answer within $CUT s. failed: the engine gave up, for instance out of memory.
-- clear: the time of clearing the work area alone, the floor of what the fill must touch.
-- spread: our load is timed twice, before and after the peers; the difference of the two is the machine's noise. The better one counts.
+- spread: our load is timed twice, before and after the peers; the difference of the two is the machine's noise. The lower one counts.
 
 ## This run
 
@@ -162,54 +215,86 @@ else
     echo
 fi
 
-head=("work load" bytes records "ours µs" spread "clear µs")
-wide=(28 5 7 8 7 8)
+head=("work load" bytes records "ours µs" spread)
+wide=(28 5 7 8 7)
 heading "${peers[@]}"
 worst=0 worst_name= different=0 cut=0
+times=() names=() sizes=()
 while read -r n bytes records name; do
-    one=$($OUT/ours "$n" "$MS") || fail "load $n"
-    ask "" "$n" "${peers[@]}"
-    two=$($OUT/ours "$n" "$MS") || fail "load $n"
-    spans=${one#*$'\n'}
-    read -r ours spread clear < <(better "$one" "$two")
-    for i in "${!cells[@]}"; do
-        answer=${cells[i]}
-        [ "$answer" = cut ] || [ "$answer" = failed ] && continue
-        time=${answer%%$'\n'*}
-        mark=
-        [ "${answer#*$'\n'}" = "$spans" ] || { mark=' ≠' different=$((different + 1)); }
-        cells[i]="$(us "$time") ($(ratio "$time" "$ours"))$mark"
-    done
-    awk -v x="$spread" -v y="$worst" 'BEGIN { exit !(x > y) }' && worst=$spread worst_name="$name, $bytes bytes"
-    [ "$MARKDOWN" ] && [[ $name == *'*'* ]] && name="\`${name//|/\\|}\`"
-    row "$name" "$bytes" "$records" "$(us "$ours")" "$(printf '%.1f %%' "$spread")" "$(us "$clear")" "${cells[@]}"
-done < <($OUT/list)
+    timed "$n" "${peers[@]}"
+    times[n]=$ours names[n]=$name sizes[n]="$bytes $records"
+    awk -v x="$spread" -v y="$worst" 'BEGIN { exit !(x > y) }' && worst=$spread worst_name="$(shown "$name"), $bytes bytes"
+    row "$(cell "$name")" "$bytes" "$records" "$(us "$ours")" "$(percent "$spread")" "${cells[@]}"
+done < <($OUT/list loads)
 echo
-[ "$MARKDOWN" ] && [[ $worst_name == *'*'* ]] && worst_name="\`${worst_name%%,*}\`,${worst_name#*,}"
-echo "Noise: our two runs differ by at most $(printf '%.1f' "$worst") % ($worst_name). Different spans: $different. Cut or failed: $cut."
-if [ "$MARKDOWN" ]; then
-    echo
-    echo "## The ordinary lines"
-    echo
-    echo '```'
-    for n in 0 1 2; do $OUT/list $n | head -n 2; done
-    echo '```'
-    cat <<END
+echo "Noise: our two runs differ by at most $(percent "$worst") ($worst_name). Different spans: $different. Cut or failed: $cut."
+[ "$MARKDOWN" ] || echo "Ratio: the peer's time through ours; above 1 we are faster. ≠: other spans than ours. Cut after $CUT s."
 
-## Compiling
+section "The ordinary lines" <<<"Each expression, and its line."
+[ -z "$MARKDOWN" ] || echo '```'
+for n in 0 1 2; do $OUT/list $n | head -n 2; done
+[ -z "$MARKDOWN" ] || echo '```'
 
-Our compile against the peers' \`regcomp\` with \`regfree\`, of the same rule without its tags; each tagged part is in parentheses. The times are
+section "Each call by itself" <<'END'
+Microseconds of one call on the ordinary lines. Compare is asked for the reading with itself, and answers 0.
+END
+calls=(Check Read Spell Compare Tokens)
+head=(line bytes records "${calls[@]/%/ µs}")
+wide=(28 5 7 10 10 10 10 10)
+heading
+checks=()
+for n in 0 1 2; do
+    cells=()
+    for call in "${calls[@]}"; do
+        time=$($OUT/ours $n "$MS" "$call") || fail "$call on load $n"
+        [ "$call" = Check ] && checks[n]=$time
+        cells+=("$(us "$time")")
+    done
+    row "${names[n]}" ${sizes[n]} "${cells[@]}"
+done
+
+section "Refused lines" <<'END'
+Our time of each refused line of the first table, through the time of Check alone on the same table. At once: the first byte is one that the
+rule does not have there. Inside and at the end: the byte in the middle, or the last one, is a tab, which no letter of the rule holds.
+END
+head=("refused line" bytes records "ours µs" "Check µs" "times Check")
+wide=(28 5 7 8 8 11)
+heading
+for n in "${!names[@]}"; do
+    [[ ${names[n]} == refused* ]] || continue
+    for i in 0 1 2; do [ "${names[n]##*, }" = "${names[i]##* }" ] && check=${checks[i]}; done
+    row "${names[n]}" ${sizes[n]} "$(us "${times[n]}")" "$(us "$check")" "$(ratio "${times[n]}" "$check")"
+done
+
+section "Worst tables" <<'END'
+The tables of up to 255 records that are known to take longest, on lines of 255 bytes, ours alone. The first five are as large as fits, on
+bytes a. The last is the slowest of 300 random tables of 255 records, the same 300 in each run, on lines of one or two letters; its number is shown,
+and whether its line is read or refused.
+END
+head=(table records bytes "ours µs" spread)
+wide=(28 7 5 8 7)
+heading
+while read -r n records bytes name; do
+    one=$($OUT/worst "$n" "$MS") && two=$($OUT/worst "$n" "$MS") || fail "worst table $n"
+    read -r ours spread < <(both "$one" "$two")
+    row "$(cell "$name")" "$records" "$bytes" "$(us "$ours")" "$(percent "$spread")"
+done < <($OUT/worst)
+
+section "Time against the line's length" <<'END'
+The rule of the short ordinary line, 50 records, on lines whose remark grows.
+END
+series length bytes "Time against the line's length (a rule of 50 records)" "bytes of the line"
+
+section "Time against the table's size" <<'END'
+A line of 80 bytes by rules `[a-z]+( [a-z]+)?( [a-z]+)?..[ -~]+` with 0 to 27 optional words.
+END
+series records records "Time against the table's size (a line of 80 bytes)" "records of the table"
+
+section Compiling <<'END'
+Our compile against the peers' `regcomp` with `regfree`, of the same rule without its tags; each tagged part is in parentheses. The times are
 taken as above. ns a byte: our time through the rule's bytes, which must not grow with them. A rule of over 255 records is refused by 16
 after its last byte: it is the walk that is timed.
-
 END
-else
-    echo "Ratio: the peer's time through ours; above 1 we are faster. ≠: other spans than ours. Cut after $CUT s."
-    echo
-    echo "Compiling, against regcomp with regfree. A rule of over 255 records is refused by 16 after its last byte: it is the walk that is timed."
-    echo
-fi
-
 head=(rule bytes records "ours µs" spread "ns a byte")
 wide=(28 5 8 8 7 9)
 heading "${compilers[@]}"
@@ -218,15 +303,14 @@ while read -r n bytes name; do
     one=$($OUT/compile "$n" "$MS") || fail "rule $n"
     ask compile- "$n" "${compilers[@]}"
     two=$($OUT/compile "$n" "$MS") || fail "rule $n"
-    read -r ours spread _ < <(better "$one" "$two")
+    read -r ours spread < <(both "$one" "$two")
     each=$(awk -v x="$ours" -v n="$bytes" 'BEGIN { print 1000 * x / n }')
     for i in "${!cells[@]}"; do
         [ "${cells[i]}" = cut ] || [ "${cells[i]}" = failed ] || cells[i]="$(us "${cells[i]}") ($(ratio "${cells[i]}" "$ours"))"
     done
     [ "$bytes" -eq 64 ] && first=$each
     [ "$bytes" -eq 4096 ] && growth+="${growth:+, }$(ratio "$each" "$first") ($name)"
-    [ "$MARKDOWN" ] && [[ $name == *'|'* ]] && name="\`${name//|/\\|}\`"
-    row "$name" "$bytes" "${one#*$'\n'}" "$(us "$ours")" "$(printf '%.1f %%' "$spread")" "$(us "$each")" "${cells[@]}"
+    row "$(cell "$name")" "$bytes" "${one#*$'\n'}" "$(us "$ours")" "$(percent "$spread")" "$(us "$each")" "${cells[@]}"
 done < <($OUT/compile)
 echo
 echo "The time a byte at 4,096 bytes through that at 64: $growth."

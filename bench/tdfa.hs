@@ -5,6 +5,7 @@ import Control.Exception (evaluate)
 import Data.Array (bounds, elems, (!))
 import qualified Data.ByteString.Char8 as B
 import Data.IORef
+import Data.List (sort)
 import GHC.Clock (getMonotonicTime)
 import System.Environment (getArgs)
 import Text.Printf (printf)
@@ -29,7 +30,7 @@ timed rounds call = do
   to <- getMonotonicTime
   return (to - from)
 
--- As measure.h: the best of 5 repeats of about ms milliseconds, none started after 5 seconds in all.
+-- As measure.h: the median of 7 repeats of about ms milliseconds, none started after 5 seconds in all.
 measure :: Double -> IO a -> IO Double
 measure ms call = do
   begin <- getMonotonicTime
@@ -38,17 +39,23 @@ measure ms call = do
         if took * 1e4 < ms then calibrate (rounds * 4) else return (took / fromIntegral rounds)
   first <- calibrate 1
   let rounds = max 1 (floor (ms * 1e-3 / first)) :: Int
-      go :: Int -> Double -> IO Double
-      go 0 best = return best
-      go n best = do
+      go :: Int -> [Double] -> IO [Double]
+      go 0 times = return times
+      go n times = do
         now <- getMonotonicTime
         if now - begin > 5
-          then return best
+          then return times
           else do
             took <- timed rounds call
-            go (n - 1) (min best (took / fromIntegral rounds))
-  best <- go 5 first
-  return (best * 1e6)
+            go (n - 1) (took / fromIntegral rounds : times)
+  times <- go 7 []
+  return (1e6 * if null times then first else median times)
+
+median :: [Double] -> Double
+median times = (sorted !! ((count - 1) `div` 2) + sorted !! (count `div` 2)) / 2
+  where
+    sorted = sort times
+    count = length times
 
 main :: IO ()
 main = do
