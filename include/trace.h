@@ -27,10 +27,10 @@
 extern "C" {
 #endif
 
-/* The version, as numbers and as text ("2.1.0"). Another major number says that a format or a call's result has changed. */
+/* The version, as numbers and as text ("2.1.1"). Another major number says that a format or a call's result has changed. */
 #define TRACE_VERSION_MAJOR 2
 #define TRACE_VERSION_MINOR 1
-#define TRACE_VERSION_PATCH 0
+#define TRACE_VERSION_PATCH 1
 #define TRACE_TEXT_OF(macro) TRACE_TEXT(macro)
 #define TRACE_TEXT(word) #word
 #define TRACE_VERSION TRACE_TEXT_OF(TRACE_VERSION_MAJOR) "." TRACE_TEXT_OF(TRACE_VERSION_MINOR) "." TRACE_TEXT_OF(TRACE_VERSION_PATCH)

@@ -1,256 +1,356 @@
 -- One law for each kind of record: the row as the code leaves it tells the truth of the record.
 -- Assumes nothing.
-use Prim.Native.Nat.{ℕ, zero, suc, _+_, _-_, _≤_, _<_}
-use native.Mathlib.Nat.{add-zero, sub-zero}
+use Prim.Native.Nat.{ℕ, suc, _+_, _-_, _*_, _≤_, _<_}
+use native.Mathlib.Nat.{sub-zero}
 use native.Mathlib.Omega.{arith}
 use mathlib.Core.Path.{_≡_, refl, sym, ap, _∙_}
 use mathlib.Core.Logic.{_⊎_, inl, inr}
-use mathlib.Core.Bool.{Bool, true, false, _&&_, or-false, and-true, and-false}
+use mathlib.Core.Bool.{Bool, true, false, true≢false, _&&_, _||_}
 use mathlib.Core.List.{List, [], _∷_}
-use lib.Dec.{eqb}
-use lib.ListN.{length, getD, set, drop}
-use lib.Seq.{getD-take, getD-drop}
-use borrow.Author.Tests.{ne-eqb}
-use Rattle.regex.specs.Expressions.{ByteSet, holds, empty, letter, star}
+use lib.Dec.{leb, eqb}
+use lib.ListN.{length, getD, take}
+use lib.Seq.{length-take-le}
+use borrow.Author.Tests.{ne-eqb, eqb-true, lt-leb}
+use Rattle.regex.specs.Expressions.{Exp, empty, seq, star}
 use Rattle.regex.specs.Spells.{spells}
 use Rattle.table.specs.Records.{count, kindAt, aAt, bAt, isLetter}
 use Rattle.table.specs.Expression.{expOf}
-use Rattle.table.specs.Letters.{byteSet, byteSetAt}
-use Rattle.table.proofs.Laws.{exp-nothing, exp-empty, exp-letter, exp-or, exp-seq, exp-star}
-use Rattle.table.proofs.Passing.{count-bound, a-below, b-below, star-a-below}
-use Rattle.area.specs.Area.{rowAt, part}
-use Rattle.area.specs.Cuts.{restsPart}
-use Rattle.area.specs.Rows.{rowSet, Written, joined, marked, lowerSet, cutsJoined, Joinable}
-use Rattle.area.specs.Filling.{Ready, Cleared, Filled}
-use Rattle.area.proofs.Places.{lower-row, lower-block}
-use Rattle.area.proofs.Cuts.{below-or}
-use Rattle.area.proofs.Parts.{part-length, seq-part, star-part, star-chained-part}
-use Rattle.area.proofs.Rows.{written-twice, written-mark}
-use Rattle.area.proofs.Filling.{row-room, ready-kept, row-filled, lower-told, behind-told, cuts-told}
+use Rattle.table.specs.Letters.{LetterKind}
+use Rattle.table.proofs.Laws.{exp-nothing, exp-empty, exp-or, exp-seq, exp-star}
+use Rattle.table.proofs.Passing.{a-below, b-below, star-a-below, kinds, kind-small, letter-at}
+use Rattle.rows.specs.Layout.{isSet, longestAt, lowestAt, inRow, has, tells}
+use Rattle.rows.specs.Cuts.{some, cutAt}
+use Rattle.rows.specs.Rows.{Shaped, Growing, Grown, Earlier, Cutting, behind, second, cutsJoined}
+use Rattle.rows.proofs.Places.{first-head, head-inside, size-grows}
+use Rattle.rows.proofs.Bytes.{set-byte, clear-byte}
+use Rattle.rows.proofs.Cuts.{below-or}
+use Rattle.area.specs.Filling.{truth, Known, Ready, Made}
+use Rattle.rows.proofs.Recurrences.{starts, rests, seq-cuts-apart, seq-of-star-cuts, star-cuts, star-chained}
+use Rattle.rows.proofs.Growing.{lowest-one, grown-same}
+use Rattle.rows.proofs.Joining.{grown-twice}
+use Rattle.area.proofs.Parts.{part-whole}
+use Rattle.area.proofs.Known.{inside, empty-told, lower-earlier, behind-told, lower-shape, behind-shape, behind-whole, cuts-told, known-kept}
 
-empty-spells : (u : List ℕ) → spells empty u ≡ eqb (length u) 0
-empty-spells [] = refl
-empty-spells (c ∷ u) = sym (ne-eqb (suc (length u)) 0 (λ (z : suc (length u) ≡ 0). omega arith))
+-- a row whose longest length is 0 tells nothing, and one whose longest length is 1 tells 1
+pub has-none : (m : ℕ) (w : List ℕ) (k d e : ℕ) → longestAt w m d k ≡ 0 → 1 ≤ e → has m w k d e ≡ false
+unfolding has inRow
+has-none m w k d e h l = rw (h, lt-leb e 0 l)
 
-letter-spells : (b : ByteSet) (u : List ℕ) → spells (letter b) u ≡ (eqb (length u) 1 && holds b (getD u 0 0))
-letter-spells b [] = refl
-letter-spells b (c ∷ []) = refl
-letter-spells b (c ∷ (x ∷ u)) = rw (ne-eqb (suc (suc (length u))) 1 (λ (z : suc (suc (length u)) ≡ 1). omega arith))
-
--- a letter by the bytes of its record
-pub held-by :
-    (t : List ℕ) (k c : ℕ) {kind a b : ℕ} {r : Bool} → kind ≡ kindAt t k → a ≡ aAt t k → b ≡ bAt t k → r ≡ holds (byteSet kind a b) c
-    → r ≡ holds (byteSetAt t k) c
-held-by t k c e f g h = h ∙ rw (e, f, g)
-
--- a letter on a part of e bytes: one byte, the first
-letter-part : (b : ByteSet) (s : List ℕ) (d e : ℕ) → d ≤ length s → e ≤ d
-    → spells (letter b) (part s d e) ≡ (eqb e 1 && holds b (getD s (length s - d) 0))
-unfolding part
-letter-part b s d e l h = letter-spells b (part s d e) ∙ rw (part-length s d l e h) (head (below-or e 1))
+pub has-one : (m : ℕ) (w : List ℕ) (k d e : ℕ) → longestAt w m d k ≡ 1 → 1 ≤ e → has m w k d e ≡ eqb e 1
+unfolding has inRow lowestAt isSet
+has-one m w k d e h l = rw h (go (below-or 1 e))
   where
-    head : (e < 1) ⊎ (1 ≤ e) → (eqb e 1 && holds b (getD (part s d e) 0 0)) ≡ (eqb e 1 && holds b (getD s (length s - d) 0))
-    head (inl i) = rw (ne-eqb e 1 (λ (z : e ≡ 1). omega arith))
-    head (inr i) =
-        ap (λ (c : ℕ). eqb e 1 && holds b c)
-        (getD-take e (drop (length s - d) s) 0 0 i ∙ getD-drop (length s - d) s 0 0 ∙ ap (λ (x : ℕ). getD s x 0) (add-zero (length s - d)))
+    go : (1 < e) ⊎ (e ≤ 1) → (leb e 1 && leb 1 e) ≡ eqb e 1
+    go (inl x) = rw (lt-leb e 1 x, ne-eqb e 1 (λ (z : e ≡ 1). omega arith))
+    go (inr x) = let z : e ≡ 1 = omega arith in rw z
 
-module _ (t s : List ℕ) (d k : ℕ) (w : List ℕ) (p : Cleared t s d k w) where
+pub one-set : isSet 1 ≡ true
+unfolding isSet
+one-set = refl
+
+pub short-shape : (m d k : ℕ) (w : List ℕ) → 1 ≤ d → longestAt w m d k ≤ 1 → Shaped m d k w
+short-shape m d k w one h =
+    let l : lowestAt w m d k ≡ 1 = lowest-one w m d k h in
+    record {
+      small = omega arith;
+      ordered = λ i. omega arith;
+      clean = λ z e x y. absurd (true≢false (sym one-set ∙ ap isSet (sym l) ∙ z));
+    }
+
+empty-spells : (u : List ℕ) → 1 ≤ length u → spells empty u ≡ false
+empty-spells [] l = absurd (omega arith)
+empty-spells (c ∷ u) l = refl
+
+-- the code's test for a Star
+star-seen : (t : List ℕ) (j : ℕ) {kind : ℕ} → kind ≡ kindAt t j → eqb kind 5 ≡ true → kindAt t j ≡ 5
+star-seen t j {kind} e h = sym e ∙ eqb-true kind 5 h
+
+module _ (t s : List ℕ) (k : ℕ) (w : List ℕ) (p : Ready t s k w) where
   abbrev m : ℕ
   m = count t
 
-  -- the row as it came
-  unchanged : Written (rowSet w (rowAt m d k)) (rowAt m d k) (d + 1) w w
-  unchanged = record { size = refl; before = λ i h. refl; inside = λ i h. refl; after = λ i h. refl }
+  abbrev d : ℕ
+  d = length s
 
-  -- the row with byte a set
-  mark : (a : ℕ) → a ≤ d → Written (marked w (rowAt m d k) a) (rowAt m d k) (d + 1) w (set w (rowAt m d k + a) 1)
-  mark a l = written-mark (rowAt m d k) (d + 1) a w (omega arith) (omega (arith, row-room t s d k w (p .ready)))
+  abbrev q : Known t s k w
+  q = p .known
 
-  marked-told : (a e : ℕ) → e ≤ d → marked w (rowAt m d k) a e ≡ eqb e a
-  marked-told a e l = rw (p .clear e l) (or-false (eqb e a))
+  -- the truth of this row
+  whole : (e : ℕ) → truth t s k d e ≡ starts (expOf t k) s e
+  whole e = ap (spells (expOf t k)) (part-whole s e)
 
-  pub nothing-filled : kindAt t k ≡ 0 → Filled t s d (k + 1) w w
-  nothing-filled kind =
-      row-filled t s d k w (p .ready) w (rowSet w (rowAt m d k)) unchanged (λ e l. p .clear e l ∙ rw (exp-nothing t k kind))
+  pub growing : Growing m d k w
+  growing =
+      record {
+        inside = inside t s k w q k (p .number);
+        some-byte = q .some-byte;
+        shape = short-shape m d k w (q .some-byte) (omega (arith, p .none));
+      }
 
-  pub empty-filled : (to : ℕ) → to ≡ rowAt m d k → kindAt t k ≡ 1 → Filled t s d (k + 1) w (set w to 1)
-  empty-filled to at kind =
-      row-filled t s d k w (p .ready) (set w to 1) (marked w (rowAt m d k) 0)
-      (let q = mark 0 (omega arith) in rw at (rw (add-zero (rowAt m d k)) at q))
-      (λ e l. marked-told 0 e l
-      ∙ rw (exp-empty t k kind) (sym (empty-spells (part s d e) ∙ rw (part-length s d (p .ready .depth) e l))))
+  fresh : (e : ℕ) → 1 ≤ e → has m w k d e ≡ false
+  fresh e l = has-none m w k d e (p .none) l
 
-  -- the byte of the line that a letter tests
-  abbrev pub head : ℕ
-  head = getD s (length s - d) 0
+  -- an empty row is right where no part of at least one byte is spelled
+  pub unmade : ((e : ℕ) → 1 ≤ e → e ≤ d → starts (expOf t k) s e ≡ false) → Made t s k w w
+  unmade h =
+      record {
+        size = refl;
+        kept = λ i n. refl;
+        shape = growing .shape;
+        facts = λ e l x. fresh e l ∙ sym (whole e ∙ h e l x);
+      }
 
-  letter-row : isLetter t k ≡ true → (e : ℕ) → e ≤ d
-      → spells (expOf t k) (part s d e) ≡ (eqb e 1 && holds (byteSetAt t k) head)
-  letter-row kind e x = rw (exp-letter t k kind) (letter-part (byteSetAt t k) s d e (p .ready .depth) x)
+  pub nothing-made : kindAt t k ≡ 0 → Made t s k w w
+  nothing-made kind = unmade (λ e l x. rw (exp-nothing t k kind))
 
-  pub letter-filled : isLetter t k ≡ true → 1 ≤ d → holds (byteSetAt t k) head ≡ true → (to : ℕ) → to ≡ rowAt m d k
-      → Filled t s d (k + 1) w (set w (to + 1) 1)
-  letter-filled kind l h to at =
-      row-filled t s d k w (p .ready) (set w (to + 1) 1) (marked w (rowAt m d k) 1)
-      (rw at (mark 1 l))
-      (λ e x. marked-told 1 e x ∙ sym (letter-row kind e x ∙ rw h (and-true (eqb e 1))))
-
-  pub letter-unfilled : isLetter t k ≡ true → (d ≡ 0) ⊎ (holds (byteSetAt t k) head ≡ false) → Filled t s d (k + 1) w w
-  letter-unfilled kind o =
-      row-filled t s d k w (p .ready) w (rowSet w (rowAt m d k)) unchanged
-      (λ e x. p .clear e x ∙ sym (letter-row kind e x ∙ missed e x o))
-    where
-      missed : (e : ℕ) → e ≤ d → (d ≡ 0) ⊎ (holds (byteSetAt t k) head ≡ false)
-          → (eqb e 1 && holds (byteSetAt t k) head) ≡ false
-      missed e x (inl z) = rw (ne-eqb e 1 (λ (q : e ≡ 1). omega arith))
-      missed e x (inr z) = rw z (and-false (eqb e 1))
+  pub empty-made : kindAt t k ≡ 1 → Made t s k w w
+  empty-made kind = unmade (λ e l x. rw (exp-empty t k kind) (empty-spells (take e s) (omega (arith, length-take-le e s x))))
 
   -- the children of Or and Seq
-  a-child : (kindAt t k ≡ 3) ⊎ (kindAt t k ≡ 4) → aAt t k < k
-  a-child = a-below t (p .ready .sized .passes) k (p .ready .number)
+  pub a-child : (kindAt t k ≡ 3) ⊎ (kindAt t k ≡ 4) → aAt t k < k
+  a-child = a-below t (q .sized .passes) k (p .number)
 
-  b-child : (kindAt t k ≡ 3) ⊎ (kindAt t k ≡ 4) → bAt t k < k
-  b-child = b-below t (p .ready .sized .passes) k (p .ready .number)
+  pub b-child : (kindAt t k ≡ 3) ⊎ (kindAt t k ≡ 4) → bAt t k < k
+  b-child = b-below t (q .sized .passes) k (p .number)
 
-  or-row : kindAt t k ≡ 3 → (u v : List ℕ) → Written (joined w (rowAt m d k) (rowAt m d (aAt t k))) (rowAt m d k) (d + 1) w u
-      → Written (joined u (rowAt m d k) (rowAt m d (bAt t k))) (rowAt m d k) (d + 1) u v
-      → Filled t s d (k + 1) w v
-  or-row kind u v q r =
-      row-filled t s d k w (p .ready) v (joined u (rowAt m d k) (rowAt m d (bAt t k))) (written-twice q r)
-      (λ e l. rw (exp-or t k kind (a-child (inl kind)) (b-child (inl kind)), left e l, right e l))
-    where
-      left : (e : ℕ) → e ≤ d → rowSet u (rowAt m d k) e ≡ spells (expOf t (aAt t k)) (part s d e)
-      left e l =
-          q .inside e (omega arith) ∙ rw (p .clear e l) (lower-told t s d k w (p .ready) (aAt t k) e (a-child (inl kind)) l)
+  -- the child of a Star
+  pub star-child : kindAt t k ≡ 5 → aAt t k < k
+  star-child = star-a-below t (q .sized .passes) k (p .number)
 
-      right : (e : ℕ) → e ≤ d → rowSet u (rowAt m d (bAt t k)) e ≡ spells (expOf t (bAt t k)) (part s d e)
-      right e l = lower-told t s d k u (ready-kept t s d k w (p .ready) u q) (bAt t k) e (b-child (inl kind)) l
+  -- a row to which the row of a lower record was added first
+  module _ (j : ℕ) (lower : j < k) (u : List ℕ)
+      (g : Grown m d k (λ e. has m w k d e || behind m w j d d e) w u) where
+    pub added-known : Known t s k u
+    added-known = known-kept t s k w q (p .number) _ u g
 
-  pub or-filled : kindAt t k ≡ 3 → {to first second : ℕ} → to ≡ rowAt m d k → first ≡ rowAt m d (aAt t k) → second ≡ rowAt m d (bAt t k)
-      → (u v : List ℕ) → Written (joined w to first) to (d + 1) w u → Written (joined u to second) to (d + 1) u v
-      → Filled t s d (k + 1) w v
-  or-filled kind at1 at2 at3 u v = rw (at1, at2, at3) (or-row kind u v)
+    pub added-growing : Growing m d k u
+    added-growing =
+        record { inside = inside t s k u added-known k (p .number); some-byte = q .some-byte; shape = g .shape }
 
-  -- Or's rows stand one behind the other
-  pub or-places : kindAt t k ≡ 3 → {to first second : ℕ} → to ≡ rowAt m d k → first ≡ rowAt m d (aAt t k) → second ≡ rowAt m d (bAt t k)
-      → (to + (d + 1) ≤ length w) × (first + (d + 1) ≤ to) × (second + (d + 1) ≤ to)
-  or-places kind at1 at2 at3 =
-      omega (
-        arith,
-        row-room t s d k w (p .ready),
-        lower-row m d (aAt t k) k d (a-child (inl kind)) (omega arith),
-        lower-row m d (bAt t k) k d (b-child (inl kind)) (omega arith),
+    pub added-facts : (e : ℕ) → 1 ≤ e → e ≤ d → has m u k d e ≡ starts (expOf t j) s e
+    added-facts e l x =
+        g .facts e l x ∙ rw (fresh e l) (behind-whole t s k w q j e lower (omega (arith, p .number)) x)
+
+  pub or-made : kindAt t k ≡ 3 → {a b : ℕ} → a ≡ aAt t k → b ≡ bAt t k → (u v : List ℕ)
+      → Grown m d k (λ e. has m w k d e || behind m w a d d e) w u
+      → Grown m d k (λ e. has m u k d e || behind m u b d d e) u v
+      → Made t s k w v
+  or-made kind {a} {b} ea eb u v g h =
+      let x : aAt t k < k = a-child (inl kind) in
+      let y : bAt t k < k = b-child (inl kind) in
+      let a-low : a < k = omega arith in
+      let b-low : b < k = omega arith in
+      grown-same (grown-twice g h)
+      (λ e l i.
+      rw (
+        added-facts a a-low u g e l i,
+        behind-whole t s k u (added-known a a-low u g) b e b-low (omega (arith, p .number)) i,
+      )
+      (sym (whole e ∙ rw (exp-or t k kind x y, ← ea, ← eb))))
+
+  -- what cutting needs, for a row v that is still to grow
+  module _ (v : List ℕ) (known : Known t s k v) (grows : Growing m d k v) (i j : ℕ) (first : i < k) (second-in : j < m) where
+    pub cutting-plain : Cutting m d k i j false v
+    cutting-plain =
+        record {
+          growing = grows;
+          first-lower = first;
+          first-shape = lower-shape t s k v known i first (omega (arith, p .number));
+          second-known = second-in;
+          second-shape = λ c l h. behind-shape t s k v known j c second-in l h;
+          chained = λ z. absurd (true≢false (sym z));
+          closed = λ z. absurd (true≢false (sym z));
+        }
+
+    chain : (r : Exp) → expOf t j ≡ star r → (a c e : ℕ) → 1 ≤ a → a ≤ c → c ≤ e → e ≤ d → second m v j d a (c - a) ≡ true
+        → second m v j d c (e - c) ≡ true
+        → second m v j d a (e - a) ≡ true
+    chain r rule a c e one l h x y z =
+        behind-told t s k v known j a (e - a) second-in one (omega arith) (omega arith)
+        ∙ rw rule
+        (star-chained r s a c e l h
+        (rw rule at (sym (behind-told t s k v known j a (c - a) second-in one (omega arith) (omega arith)) ∙ y))
+        (rw rule at (sym (behind-told t s k v known j c (e - c) second-in (omega arith) (omega arith) (omega arith)) ∙ z)))
+
+    pub cutting-star : (star? : Bool) → (star? ≡ true → kindAt t j ≡ 5)
+        → (star? ≡ true → (c e : ℕ) → 1 ≤ c → c ≤ e → e ≤ d → has m v k d c ≡ true → second m v j d c (e - c) ≡ true → has m v k d e ≡ true)
+        → Cutting m d k i j star? v
+    cutting-star star? kind closed =
+        record {
+          growing = grows;
+          first-lower = first;
+          first-shape = lower-shape t s k v known i first (omega (arith, p .number));
+          second-known = second-in;
+          second-shape = λ c l h. behind-shape t s k v known j c second-in l h;
+          chained = λ z.
+              chain (expOf t (aAt t j)) (exp-star t j (kind z) (star-a-below t (q .sized .passes) j second-in (kind z)));
+          closed = closed;
+        }
+
+    -- the row after its cuts
+    pub cut-facts : (x : List ℕ) → Grown m d k (cutsJoined m v d k i j (d + 1)) v x → (e : ℕ) → 1 ≤ e → e ≤ d
+        → has m x k d e ≡ (has m v k d e || some (cutAt (starts (expOf t i) s) (rests (expOf t j) s) 1 e) (suc e))
+    cut-facts x g e l h =
+        g .facts e l h ∙ ap (λ (b : Bool). has m v k d e || b) (cuts-told t s k v known i j e first (omega (arith, p .number)) second-in h)
+
+  -- a Star: the first iteration has at least one byte
+  pub star-cutting : kindAt t k ≡ 5 → {a : ℕ} → a ≡ aAt t k → Cutting m d k a k true w
+  star-cutting kind ea =
+      let l : aAt t k < k = star-child kind in
+      cutting-star w q growing _ k (omega arith) (p .number) true (λ z. kind)
+      (λ z c e one x y h i. absurd (true≢false (sym h ∙ fresh c one)))
+
+  pub star-made : kindAt t k ≡ 5 → {a : ℕ} → a ≡ aAt t k → (v : List ℕ) → Grown m d k (cutsJoined m w d k a k (d + 1)) w v → Made t s k w v
+  star-made kind {a} ea v g =
+      let l : aAt t k < k = star-child kind in
+      grown-same (record { size = g .size; kept = g .kept; shape = g .shape; facts = λ e x y. refl })
+      (λ e x y.
+      cut-facts w q growing a k (omega arith) (p .number) v g e x y
+      ∙ rw (fresh e x)
+      (sym (whole e ∙ rw (exp-star t k kind l, ← ea) (star-cuts (expOf t a) s e x y))))
+
+  -- a Seq whose first child does not spell the empty line
+  module _ (kind : kindAt t k ≡ 4) {a b : ℕ} (ea : a ≡ aAt t k) (eb : b ≡ bAt t k) where
+    a-low : a < k
+    a-low = let l : aAt t k < k = a-child (inr kind) in omega arith
+
+    b-low : b < k
+    b-low = let l : bAt t k < k = b-child (inr kind) in omega arith
+
+    rule : expOf t k ≡ seq (expOf t a) (expOf t b)
+    rule = rw (ea, eb) (exp-seq t k kind (a-child (inr kind)) (b-child (inr kind)))
+
+    seq-truth : (e : ℕ) → e ≤ d
+        → truth t s k d e
+        ≡ ((spells (expOf t a) [] && starts (expOf t b) s e) || some (cutAt (starts (expOf t a) s) (rests (expOf t b) s) 1 e) (suc e))
+    seq-truth e x = whole e ∙ rw rule (seq-cuts-apart (expOf t a) (expOf t b) s e x)
+
+    pub without-cutting : {kind-b : ℕ} → kind-b ≡ kindAt t b → Cutting m d k a b (eqb kind-b 5) w
+    without-cutting h =
+        cutting-star w q growing a b a-low (omega (arith, b-low, p .number)) _ (star-seen t b h)
+        (λ z c e one x y i j. absurd (true≢false (sym i ∙ fresh c one)))
+
+    pub without-made : spells (expOf t (aAt t k)) [] ≡ false → (v : List ℕ) → Grown m d k (cutsJoined m w d k a b (d + 1)) w v → Made t s k w v
+    without-made none v g =
+        grown-same (record { size = g .size; kept = g .kept; shape = g .shape; facts = λ e x y. refl })
+        (λ e x y.
+        let z : spells (expOf t a) [] ≡ false = rw ea none in
+        cut-facts w q growing a b a-low (omega (arith, b-low, p .number)) v g e x y
+        ∙ rw (fresh e x) (sym (seq-truth e y ∙ rw z)))
+
+    -- one whose first child does
+    module _ (u : List ℕ) (g : Grown m d k (λ e. has m w k d e || behind m w b d d e) w u) where
+      abbrev known-u : Known t s k u
+      known-u = added-known b b-low u g
+
+      abbrev growing-u : Growing m d k u
+      growing-u = added-growing b b-low u g
+
+      pub with-cutting : {kind-b : ℕ} → kind-b ≡ kindAt t b → Cutting m d k a b (eqb kind-b 5) u
+      with-cutting h =
+          cutting-star u known-u growing-u a b a-low (omega (arith, b-low, p .number)) _ (star-seen t b h)
+          (λ z c e one x y i j. closed (star-seen t b h z) c e one x y i j)
+        where
+          closed : kindAt t b ≡ 5 → (c e : ℕ) → 1 ≤ c → c ≤ e → e ≤ d → has m u k d c ≡ true → second m u b d c (e - c) ≡ true
+              → has m u k d e ≡ true
+          closed five c e one x y i j =
+              let l : aAt t b < b = star-a-below t (q .sized .passes) b (omega (arith, b-low, p .number)) five in
+              let star-rule : expOf t b ≡ star (expOf t (aAt t b)) = exp-star t b five l in
+              let front : starts (expOf t b) s c ≡ true = sym (added-facts b b-low u g c one (omega arith)) ∙ i in
+              let back : rests (expOf t b) s c (e - c) ≡ true =
+              sym (behind-told t s k u known-u b c (e - c) (omega (arith, b-low, p .number)) one (omega arith) (omega arith)) ∙ j in
+              let joined : rests (star (expOf t (aAt t b))) s 0 (e - 0) ≡ true =
+              star-chained (expOf t (aAt t b)) s 0 c e (omega arith) x (rw (sub-zero c) (rw star-rule at front)) (rw star-rule at back) in
+              added-facts b b-low u g e (omega arith) y ∙ rw star-rule (rw (sub-zero e) at joined)
+
+      pub with-made : spells (expOf t (aAt t k)) [] ≡ true → (v : List ℕ) → Grown m d k (cutsJoined m u d k a b (d + 1)) u v → Made t s k w v
+      with-made some-empty v h =
+          grown-same (grown-twice g (record { size = h .size; kept = h .kept; shape = h .shape; facts = λ e x y. refl }))
+          (λ e x y.
+          let z : spells (expOf t a) [] ≡ true = rw ea some-empty in
+          cut-facts u known-u growing-u a b a-low (omega (arith, b-low, p .number)) v h e x y
+          ∙ rw (added-facts b b-low u g e x y) (sym (seq-truth e y ∙ rw z)))
+
+      -- one whose first child is a Star of record i
+      module _ (five : kindAt t (aAt t k) ≡ 5) {i : ℕ} (ei : i ≡ aAt t (aAt t k)) where
+        i-low : i < k
+        i-low =
+            let l : aAt t k < k = a-child (inr kind) in
+            let h : aAt t (aAt t k) < aAt t k = star-a-below t (q .sized .passes) (aAt t k) (omega (arith, p .number)) five in
+            omega arith
+
+        star-rule : expOf t k ≡ seq (star (expOf t i)) (expOf t b)
+        star-rule =
+            let l : aAt t k < k = a-child (inr kind) in
+            rw (ei, eb)
+            (exp-seq t k kind l (b-child (inr kind))
+            ∙ ap (λ (r : Exp). seq r (expOf t (bAt t k)))
+            (exp-star t (aAt t k) five (star-a-below t (q .sized .passes) (aAt t k) (omega (arith, p .number)) five)))
+
+        pub of-star-cutting : Cutting m d k i k false u
+        of-star-cutting = cutting-plain u known-u growing-u i k i-low (p .number)
+
+        pub of-star-made : (v : List ℕ) → Grown m d k (cutsJoined m u d k i k (d + 1)) u v → Made t s k w v
+        of-star-made v h =
+            grown-same (grown-twice g (record { size = h .size; kept = h .kept; shape = h .shape; facts = λ e x y. refl }))
+            (λ e x y.
+            cut-facts u known-u growing-u i k i-low (p .number) v h e x y
+            ∙ rw (added-facts b b-low u g e x y)
+            (sym (whole e ∙ rw star-rule (seq-of-star-cuts (expOf t i) (expOf t b) s e y))))
+
+-- what the code's calls need, in the order of the code
+module _ (t s : List ℕ) (k : ℕ) (w : List ℕ) (p : Ready t s k w) where
+  -- a record stands in the table
+  pub record-there : (j : ℕ) → j ≤ k → 4 * j + 3 < length t
+  record-there j l = omega (arith, p .number)
+
+  -- a child's row may be added first
+  child-adds : (j : ℕ) → j < k
+      → Growing (count t) (length s) k w × Earlier (count t) (length s) k j (length s) w
+  child-adds j l = (growing t s k w p, lower-earlier t s k w (p .known) j l (omega (arith, p .number)))
+
+  pub or-first : kindAt t k ≡ 3 → {a : ℕ} → a ≡ aAt t k
+      → Growing (count t) (length s) k w × Earlier (count t) (length s) k a (length s) w
+  or-first kind ea = let l : aAt t k < k = a-child t s k w p (inl kind) in child-adds _ (omega arith)
+
+  pub or-second : kindAt t k ≡ 3 → {a b : ℕ} → a ≡ aAt t k → b ≡ bAt t k → (u : List ℕ)
+      → Grown (count t) (length s) k (λ e. has (count t) w k (length s) e || behind (count t) w a (length s) (length s) e) w u
+      → Growing (count t) (length s) k u × Earlier (count t) (length s) k b (length s) u
+  or-second kind {a} {b} ea eb u g =
+      let l : aAt t k < k = a-child t s k w p (inl kind) in
+      let h : bAt t k < k = b-child t s k w p (inl kind) in (
+        added-growing t s k w p a (omega arith) u g,
+        lower-earlier t s k u (added-known t s k w p a (omega arith) u g) b (omega arith) (omega (arith, p .number)),
       )
 
-  -- small numbers
-  few : m ≤ 255
-  few = count-bound t (p .ready .sized .passes) .1
+  pub seq-first : kindAt t k ≡ 4 → {b : ℕ} → b ≡ bAt t k
+      → Growing (count t) (length s) k w × Earlier (count t) (length s) k b (length s) w
+  seq-first kind eb = let l : bAt t k < k = b-child t s k w p (inr kind) in child-adds _ (omega arith)
 
-  b-known : kindAt t k ≡ 4 → bAt t k < m
-  b-known kind = omega (arith, b-child (inr kind), p .ready .number)
+  -- the empty part of a lower record, as the code looks it up
+  pub empty-looked : (j : ℕ) → j < count t → isSet (getD w j 0) ≡ spells (expOf t j) []
+  unfolding tells
+  empty-looked j l = rw (first-head (count t) j) at (empty-told t s k w (p .known) j l)
 
-  seq-row : kindAt t k ≡ 4 → (v : List ℕ)
-      → Written (cutsJoined w m d (rowAt m d k) (rowAt m d (aAt t k)) (bAt t k) 0 (d + 1)) (rowAt m d k) (d + 1) w v
-      → Filled t s d (k + 1) w v
-  seq-row kind v q =
-      row-filled t s d k w (p .ready) v _ q
-      (λ e l.
-      rw (p .clear e l, exp-seq t k kind (a-child (inr kind)) (b-child (inr kind)))
-      (cuts-told t s d k w (p .ready) (aAt t k) (bAt t k) 0 e (a-child (inr kind)) (b-known kind) (inl (b-child (inr kind))) l
-      ∙ sym (seq-part s d (p .ready .depth) (expOf t (aAt t k)) (expOf t (bAt t k)) e l)))
+  pub empty-there : (j : ℕ) → j < count t → j < length w
+  empty-there j l =
+      omega (arith, p .known .sized .room, head-inside (count t) 0 j l, first-head (count t) j, size-grows (count t) 0 (length s) (omega arith))
 
-  seq-room : kindAt t k ≡ 4 → Joinable m d (rowAt m d k) (rowAt m d (aAt t k)) (bAt t k) 0 w
-  seq-room kind =
-      record {
-        few = omega (arith, few);
-        short = omega (arith, p .ready .depth, p .ready .sized .short);
-        known = omega (arith, few, b-known kind);
-        low-within = omega arith;
-        room = row-room t s d k w (p .ready);
-        first-before = lower-row m d (aAt t k) k d (a-child (inr kind)) (omega arith);
-        second-before = seq-before;
-        fresh = λ z. absurd (omega arith);
-        chained = λ z. absurd (omega arith);
-      }
+  pub looked-unset : (j : ℕ) → j < count t → getD w j 0 ≡ 0 → spells (expOf t j) [] ≡ false
+  looked-unset j l z = sym (empty-looked j l) ∙ clear-byte (getD w j 0) z
+
+  pub looked-set : (j : ℕ) → j < count t → ¬ (getD w j 0 ≡ 0) → spells (expOf t j) [] ≡ true
+  looked-set j l n = sym (empty-looked j l) ∙ set-byte (getD w j 0) n
+
+  -- a record without children that is no letter
+  pub leaf-made : isLetter t k ≡ false → {kind : ℕ} → kind ≡ kindAt t k → ¬ (kind ≡ 3) → ¬ (kind ≡ 4) → ¬ (kind ≡ 5) → Made t s k w w
+  leaf-made no-letter {kind} e three four five = go (kinds (kindAt t k) (kind-small t (p .known .sized .passes) k (p .number)))
     where
-      seq-before : (c : ℕ) → 0 ≤ c → c ≤ d → rowAt m (d - c) (bAt t k) + (d - c) < rowAt m d k
-      seq-before zero l h = rw (sub-zero d) (lower-row m d (bAt t k) k d (b-child (inr kind)) (omega arith))
-      seq-before (suc c) l h = lower-block m (d - suc c) d (bAt t k) k (d - suc c) (omega arith) (b-known kind) (omega arith)
-
-  -- the child of Star
-  star-child : kindAt t k ≡ 5 → aAt t k < k
-  star-child = star-a-below t (p .ready .sized .passes) k (p .ready .number)
-
-  -- the area after a Star's row has its byte 0 set
-  abbrev started : List ℕ
-  started = set w (rowAt m d k) 1
-
-  start-written : Written (marked w (rowAt m d k) 0) (rowAt m d k) (d + 1) w started
-  start-written = let q = mark 0 (omega arith) in rw (add-zero (rowAt m d k)) at q
-
-  start-ready : Ready t s d k started
-  start-ready = ready-kept t s d k w (p .ready) started start-written
-
-  start-set : (e : ℕ) → e ≤ d → rowSet started (rowAt m d k) e ≡ eqb e 0
-  start-set e l = start-written .inside e (omega arith) ∙ marked-told 0 e l
-
-  star-row : kindAt t k ≡ 5 → (v : List ℕ)
-      → Written (cutsJoined started m d (rowAt m d k) (rowAt m d (aAt t k)) k 1 (d + 1)) (rowAt m d k) (d + 1) started v
-      → Filled t s d (k + 1) w v
-  unfolding part
-  star-row kind v q =
-      row-filled t s d k w (p .ready) v _ (written-twice start-written q) (λ e l. go e l (below-or e 1))
-    where
-      rule : expOf t k ≡ star (expOf t (aAt t k))
-      rule = exp-star t k kind (star-child kind)
-
-      go : (e : ℕ) → e ≤ d → (e < 1) ⊎ (1 ≤ e)
-          → cutsJoined started m d (rowAt m d k) (rowAt m d (aAt t k)) k 1 (d + 1) e ≡ spells (expOf t k) (part s d e)
-      go e l (inl i) =
-          let z : e ≡ 0 = omega arith in
-          rw (start-set e l, rule) (rw z)
-      go e l (inr i) =
-          let n : eqb e 0 ≡ false = ne-eqb e 0 (λ (z : e ≡ 0). omega arith) in
-          rw (start-set e l) (rw n
-          (cuts-told t s d k started start-ready (aAt t k) k 1 e (star-child kind) (p .ready .number) (inr (omega arith)) l
-          ∙ rw rule (sym (star-part s d (p .ready .depth) (expOf t (aAt t k)) e i l))))
-
-  star-room : kindAt t k ≡ 5 → Joinable m d (rowAt m d k) (rowAt m d (aAt t k)) k 1 started
-  star-room kind =
-      record {
-        few = omega (arith, few);
-        short = omega (arith, p .ready .depth, p .ready .sized .short);
-        known = omega (arith, few, p .ready .number);
-        low-within = omega arith;
-        room = row-room t s d k started start-ready;
-        first-before = lower-row m d (aAt t k) k d (star-child kind) (omega arith);
-        second-before = λ c l h. lower-block m (d - c) d k k (d - c) (omega arith) (p .ready .number) (omega arith);
-        fresh = λ z c l h. start-set c h ∙ ne-eqb c 0 (λ (y : c ≡ 0). omega arith);
-        chained = λ z a c e l x y h i j.
-            behind a (e - a) (omega arith) (omega arith) (omega arith)
-            ∙ star-chained-part s d (p .ready .depth) (expOf t (aAt t k)) a c e x y h
-            (sym (behind a (c - a) (omega arith) (omega arith) (omega arith)) ∙ i)
-            (sym (behind c (e - c) (omega arith) (omega arith) (omega arith)) ∙ j);
-      }
-    where
-      behind : (c e : ℕ) → 1 ≤ c → c ≤ d → e ≤ d - c
-          → lowerSet started m d k c e ≡ restsPart (star (expOf t (aAt t k))) s d c e
-      behind c e l h x =
-          rw (exp-star t k kind (star-child kind)) at (behind-told t s d k started start-ready k c e (p .ready .number) (inr l) h x)
-
-  -- Seq and Star with the places as the code computes them
-  module _ {to first : ℕ} (at1 : to ≡ rowAt m d k) (at2 : first ≡ rowAt m d (aAt t k)) where
-    pub seq-joinable : kindAt t k ≡ 4 → {second : ℕ} → second ≡ bAt t k → Joinable m d to first second 0 w
-    seq-joinable kind at3 = rw (at1, at2, at3) (seq-room kind)
-
-    pub seq-filled : kindAt t k ≡ 4 → {second : ℕ} → second ≡ bAt t k → (v : List ℕ)
-        → Written (cutsJoined w m d to first second 0 (d + 1)) to (d + 1) w v → Filled t s d (k + 1) w v
-    seq-filled kind at3 v = rw (at1, at2, at3) (seq-row kind v)
-
-    pub star-joinable : kindAt t k ≡ 5 → Joinable m d to first k 1 (set w to 1)
-    star-joinable kind = rw (at1, at2) (star-room kind)
-
-    pub star-filled : kindAt t k ≡ 5 → (v : List ℕ)
-        → Written (cutsJoined (set w to 1) m d to first k 1 (d + 1)) to (d + 1) (set w to 1) v → Filled t s d (k + 1) w v
-    star-filled kind v = rw (at1, at2) (star-row kind v)
+      go : ((kindAt t k ≡ 0) ⊎ (kindAt t k ≡ 1) ⊎ LetterKind (kindAt t k)) ⊎ ((kindAt t k ≡ 3) ⊎ (kindAt t k ≡ 4)) ⊎ (kindAt t k ≡ 5)
+          → Made t s k w w
+      go (inl (inl z)) = nothing-made t s k w p z
+      go (inl (inr (inl z))) = empty-made t s k w p z
+      go (inl (inr (inr z))) = absurd (true≢false (sym (letter-at t k refl z) ∙ no-letter))
+      go (inr (inl (inl z))) = absurd (three (e ∙ z))
+      go (inr (inl (inr z))) = absurd (four (e ∙ z))
+      go (inr (inr z)) = absurd (five (e ∙ z))

@@ -3,6 +3,4 @@
 -- What the functions inside are given and leave that the crate above goes by: what the area tells.
 pub mod Area
 -- What only the functions inside that fill the area are given and leave.
-pub mod Cuts
-pub mod Rows
 pub mod Filling

@@ -14,7 +14,8 @@ use Rattle.regex.proofs.Flats.{posix-flat, posix-reads}
 use Rattle.regex.proofs.Ahead.{posix-unique}
 use Rattle.table.specs.Records.{count, kindAt, aAt}
 use Rattle.table.specs.Expression.{expOf}
-use Rattle.area.specs.Area.{areaSize, part}
+use Rattle.rows.specs.Layout.{areaSize}
+use Rattle.area.specs.Area.{part}
 use Rattle.reading.specs.Codec.{iterations, encode, encodeItems}
 use Rattle.matcher.specs.Walks.{Here, Room, Stored, LongestCut, Given, Walked, Counted}
 use Rattle.matcher.proofs.Parts.{part-length, part-zero}

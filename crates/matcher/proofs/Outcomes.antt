@@ -1,6 +1,6 @@
 -- Read's ways out: what each says, and what it leaves in the work area and in the output buffer.
 -- Assumes nothing.
-use Prim.Native.Nat.{ℕ, _+_, _≤_, _<_}
+use Prim.Native.Nat.{ℕ, _≤_, _<_}
 use native.Mathlib.Nat.{le-refl}
 use native.Mathlib.Omega.{arith}
 use borrow.Author.Tests.{lt-ltb, le-ltb}
@@ -26,8 +26,10 @@ use Rattle.table.specs.Answers.{Said, gives, refuses, refusal, says}
 use Rattle.table.specs.Checked.{orElse}
 use Rattle.table.specs.Expression.{expOf}
 use Rattle.table.proofs.Passing.{count-bound}
-use Rattle.area.specs.Area.{areaSize, rowAt, tells, Told}
-use Rattle.area.proofs.Places.{areaSize-formula, row-inside}
+use Rattle.rows.specs.Layout.{areaSize, tells}
+use Rattle.rows.specs.Rows.{Inside}
+use Rattle.rows.proofs.Places.{areaSize-formula}
+use Rattle.area.specs.Area.{Told}
 use Rattle.reading.specs.Codec.{fits, encode, decode}
 use Rattle.reading.specs.Fitting.{spelled}
 use Rattle.table.specs.Buffers.{ifRoom, after}
@@ -39,7 +41,7 @@ use Rattle.matcher.specs.Calls.{workSize, readParsed, readSays, readLeav
 use Rattle.matcher.specs.Demands.{Setting, NoneOutranks}
 use Rattle.matcher.specs.Walks.{Here, Answered}
 use Rattle.matcher.proofs.Parts.{part-whole}
-use Rattle.matcher.proofs.Positions.{reading}
+use Rattle.matcher.proofs.Positions.{row-held, reading}
 use Rattle.matcher.proofs.Rivals.{outranks}
 
 -- Read's contract, in the order of its clauses
@@ -151,95 +153,92 @@ module _ {t : List ℕ} {k : ℕ} (a : Admitted t k) where
     pub outcome-line : 255 < length s → Outcome t k s work out work out (refuses 7 0)
     outcome-line l = refused t k s work out work refl (said-admitted ∙ rw (lt-ltb 255 (length s) l)) (λ h. refl)
 
-    module _ (short : length s ≤ 255) where
-      -- 10
-      pub outcome-work : length work < areaSize (count t) (length s) → Outcome t k s work out work out (refuses 10 0)
-      outcome-work l =
-          let small : length work < workSize (count t) (length s) = omega (arith, areaSize-formula (count t) (length s)) in
-          refused t k s work out work refl
-          (said-admitted ∙ rw (le-ltb 255 (length s) short, lt-ltb (length work) (workSize (count t) (length s)) small))
-          (λ h. refl)
+    -- 10
+    pub outcome-work : length s ≤ 255 → length work < areaSize (count t) (length s) → Outcome t k s work out work out (refuses 10 0)
+    outcome-work short l =
+        let small : length work < workSize (count t) (length s) = omega (arith, areaSize-formula (count t) (length s)) in
+        refused t k s work out work refl
+        (said-admitted ∙ rw (le-ltb 255 (length s) short, lt-ltb (length work) (workSize (count t) (length s)) small))
+        (λ h. refl)
 
-      module _ (large : areaSize (count t) (length s) ≤ length work) where
-        said-parsed : readSays t k s (length work) (length out) ≡ readParsed (parse (expOf t k) s) (length out)
-        said-parsed =
-            let enough : workSize (count t) (length s) ≤ length work = omega (arith, areaSize-formula (count t) (length s)) in
-            said-admitted ∙ rw (le-ltb 255 (length s) short, le-ltb (length work) (workSize (count t) (length s)) enough)
+-- what the walk needs of its arguments: the table passes with the start record in it, the line is short, and the work area is large enough
+pub record Ready (t : List ℕ) (k : ℕ) (s work : List ℕ) : Type 0 where
+  pub admitted : Admitted t k
+  pub short : length s ≤ 255
+  pub large : areaSize (count t) (length s) ≤ length work
 
-        module _ {work1 : List ℕ} (told : Told t s work1) (same : length work1 ≡ length work) where
-          -- the facts of the whole line are in the area
-          pub whole-place :
-              (e : ℕ) → e ≤ length s
-              → (count t ≤ 65535) × ((k < count t) × ((length s ≤ 255) × (rowAt (count t) (length s) k + e < length work1)))
-          whole-place e l = (
-            records-few,
-            (a .inside, (short, omega (arith, row-inside (count t) (length s) k (length s) e (a .inside) (le-refl (length s)) l))),
-          )
+module _ {t : List ℕ} {k : ℕ} {s work : List ℕ} (r : Ready t k s work) where
+  -- the start record's row of the whole line is in the area as it is filled
+  pub whole-row : (work1 : List ℕ) → length work1 ≡ length work → Inside (count t) (length s) k work1
+  whole-row work1 same =
+      row-held (records-few (r .admitted)) (r .short) (r .admitted .inside) (le-refl (length s)) (omega (arith, r .large))
 
-          whole-fact : {x : Bool} → x ≡ tells (count t) work1 k (length s) (length s) → spells (expOf t k) s ≡ x
-          whole-fact e =
-              ap (spells (expOf t k)) (sym (part-whole s))
-              ∙ sym (told .fact k (length s) (length s) (a .inside) (le-refl (length s)) (le-refl (length s)))
-              ∙ sym e
+  module _ {work1 : List ℕ} (told : Told t s work1) {x : Bool} (e : x ≡ tells (count t) work1 k (length s) (length s)) where
+    pub whole-fact : spells (expOf t k) s ≡ x
+    whole-fact =
+        ap (spells (expOf t k)) (sym (part-whole s))
+        ∙ sym (told .fact k (length s) (length s) (r .admitted .inside) (le-refl (length s)) (le-refl (length s)))
+        ∙ sym e
 
-          -- 8
-          pub outcome-missing :
-              {x : Bool} → x ≡ tells (count t) work1 k (length s) (length s) → x ≡ false → Outcome t k s work out work1 out (refuses 8 0)
-          outcome-missing e f =
-              let none : parse (expOf t k) s ≡ missing =
-              parse-none (expOf t k) s .1
-              (λ l. true≢false (sym (spells-complete (expOf t k) s l) ∙ whole-fact e ∙ f)) in
-              refused t k s work out work1 refl (said-parsed ∙ ap (λ (p : Parsed). readParsed p (length out)) none)
-              (λ h. absurd (true≢false (sym h)))
+    -- the start record spells the line
+    pub whole-here : x ≡ true → Here t s work1 k (length s) (length s)
+    whole-here f =
+        record {
+          passes = r .admitted .passes;
+          told = told;
+          record-inside = r .admitted .inside;
+          short = r .short;
+          left = le-refl (length s);
+          size = le-refl (length s);
+          spelled = ap (spells (expOf t k)) (part-whole s) ∙ whole-fact ∙ f;
+        }
 
-          -- the start record spells the line
-          pub whole-here :
-              {x : Bool} → x ≡ tells (count t) work1 k (length s) (length s) → x ≡ true → Here t s work1 k (length s) (length s)
-          whole-here e f =
-              record {
-                passes = a .passes;
-                told = told;
-                record-inside = a .inside;
-                short = short;
-                left = le-refl (length s);
-                size = le-refl (length s);
-                spelled = ap (spells (expOf t k)) (part-whole s) ∙ whole-fact e ∙ f;
-              }
+  module _ (out : List ℕ) where
+    said-parsed : readSays t k s (length work) (length out) ≡ readParsed (parse (expOf t k) s) (length out)
+    said-parsed =
+        let enough : workSize (count t) (length s) ≤ length work = omega (arith, r .large, areaSize-formula (count t) (length s)) in
+        said-admitted (r .admitted) s work out
+        ∙ rw (le-ltb 255 (length s) (r .short), le-ltb (length work) (workSize (count t) (length s)) enough)
 
-          pub whole-area : areaSize (count t) (length s) ≤ length work1
-          whole-area = omega arith
+    -- 8
+    pub outcome-missing : (work1 : List ℕ) → spells (expOf t k) s ≡ false → Outcome t k s work out work1 out (refuses 8 0)
+    outcome-missing work1 f =
+        let none : parse (expOf t k) s ≡ missing =
+        parse-none (expOf t k) s .1 (λ l. true≢false (sym (spells-complete (expOf t k) s l) ∙ f)) in
+        refused t k s work out work1 refl (said-parsed ∙ ap (λ (p : Parsed). readParsed p (length out)) none)
+        (λ h. absurd (true≢false (sym h)))
 
-          leaves :
-              (v : Val) → Posix s (expOf t k) v → readSays t k s (length work) (length out) ≡ ifRoom (length out) (encode v) (records v)
-              → readLeaves t k s (length work) out ≡ after (ifRoom (length out) (encode v) (records v)) (encode v) out
-          unfolding readLeaves
-          leaves v p e =
-              ap (λ (x : Said). after x (bytesOf (parse (expOf t k) s) (λ u. encode u)) out) e
-              ∙ ap (λ (x : Parsed). after (ifRoom (length out) (encode v) (records v)) (bytesOf x (λ u. encode u)) out) (parse-found (expOf t k) s v .1 p)
+    leaves :
+        (v : Val) → Posix s (expOf t k) v → readSays t k s (length work) (length out) ≡ ifRoom (length out) (encode v) (records v)
+        → readLeaves t k s (length work) out ≡ after (ifRoom (length out) (encode v) (records v)) (encode v) out
+    unfolding readLeaves
+    leaves v p e =
+        ap (λ (x : Said). after x (bytesOf (parse (expOf t k) s) (λ u. encode u)) out) e
+        ∙ ap (λ (x : Parsed). after (ifRoom (length out) (encode v) (records v)) (bytesOf x (λ u. encode u)) out) (parse-found (expOf t k) s v .1 p)
 
-          -- 11, or the reading
-          pub outcome-answered :
-              {out1 : List ℕ} {said : Said} → Here t s work1 k (length s) (length s) → Answered t s k out out1 said
-              → Outcome t k s work out work1 out1 said
-          outcome-answered {out1} {said} h w =
-              answered (reading h .0) (subst (λ (u : List ℕ). Posix u (expOf t k) (reading h .0)) (part-whole s) (reading h .1))
-            where
-              answered : (v : Val) → Posix s (expOf t k) v → Outcome t k s work out work1 out1 said
-              answered v p =
-                  let says-room : readSays t k s (length work) (length out) ≡ ifRoom (length out) (encode v) (records v) =
-                  said-parsed ∙ ap (λ (x : Parsed). readParsed x (length out)) (parse-found (expOf t k) s v .1 p) in (
-                    w .answer v p ∙ sym says-room,
+    -- 11, or the reading
+    pub outcome-answered :
+        {work1 out1 : List ℕ} {said : Said} → Here t s work1 k (length s) (length s) → Answered t s k out out1 said
+        → Outcome t k s work out work1 out1 said
+    outcome-answered {work1} {out1} {said} h w =
+        answered (reading h .0) (subst (λ (u : List ℕ). Posix u (expOf t k) (reading h .0)) (part-whole s) (reading h .1))
+      where
+        answered : (v : Val) → Posix s (expOf t k) v → Outcome t k s work out work1 out1 said
+        answered v p =
+            let says-room : readSays t k s (length work) (length out) ≡ ifRoom (length out) (encode v) (records v) =
+            said-parsed ∙ ap (λ (x : Parsed). readParsed x (length out)) (parse-found (expOf t k) s v .1 p) in (
+              w .answer v p ∙ sym says-room,
+              (
+                w .buffer v p ∙ sym (leaves v p says-room),
+                (
+                  (λ g. absurd (room-keeps (ltb (length out) (length (encode v))) (length (encode v)) (records v) (ap keepsWork (sym says-room) ∙ g))),
+                  (
+                    (λ n g. posix-written w p g),
                     (
-                      w .buffer v p ∙ sym (leaves v p says-room),
-                      (
-                        (λ g. absurd (room-keeps (ltb (length out) (length (encode v))) (length (encode v)) (records v) (ap keepsWork (sym says-room) ∙ g))),
-                        (
-                          (λ n g. posix-written w p g),
-                          (
-                            (λ n g. unbeaten w p g),
-                            outranks t k s (length work) out (w .answer v p ∙ sym says-room) (w .buffer v p ∙ sym (leaves v p says-room)),
-                          ),
-                        ),
-                      ),
+                      (λ n g. unbeaten w p g),
+                      outranks t k s (length work) out (w .answer v p ∙ sym says-room) (w .buffer v p ∙ sym (leaves v p says-room)),
                     ),
-                  )
+                  ),
+                ),
+              ),
+            )

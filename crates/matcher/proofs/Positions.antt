@@ -17,11 +17,18 @@ use Rattle.table.specs.Records.{count, kindAt, aAt, bAt}
 use Rattle.table.specs.Expression.{expOf}
 use Rattle.table.proofs.Laws.{exp-nothing, exp-or, exp-seq, exp-star}
 use Rattle.table.proofs.Passing.{a-below, b-below, star-a-below, count-bound}
-use Rattle.area.specs.Area.{areaSize, rowAt, tells, part}
-use Rattle.area.proofs.Places.{row-inside}
+use Rattle.rows.specs.Layout.{areaSize, tells}
+use Rattle.rows.specs.Rows.{Inside}
+use Rattle.rows.proofs.Places.{size-grows}
+use Rattle.area.specs.Area.{part}
 use Rattle.matcher.specs.Walks.{Here, ToldCut, Searched, LongestCut}
 use Rattle.matcher.proofs.Cuts.{Largest}
 use Rattle.matcher.proofs.Readings.{SomeCut, seq-cut, star-cut}
+
+-- a row in the area of a line with at least as many bytes
+pub row-held : {m d k n : ℕ} {w : List ℕ} → m ≤ 65535 → d ≤ 255 → k < m → d ≤ n → areaSize m n ≤ length w → Inside m d k w
+row-held {m} {d} {k} {n} few short l i held =
+    record { few = few; short = short; known = l; room = omega (arith, size-grows m d n i) }
 
 module _ {t s w : List ℕ} {k d e : ℕ} (h : Here t s w k d e) where
   -- the part has a POSIX reading
@@ -55,14 +62,9 @@ module _ {t s w : List ℕ} {k d e : ℕ} (h : Here t s w k d e) where
   pub fact : (c d′ e′ : ℕ) → c < count t → d′ ≤ d → e′ ≤ d′ → tells (count t) w c d′ e′ ≡ spells (expOf t c) (part s d′ e′)
   fact c d′ e′ l i j = h .told .fact c d′ e′ l (omega (arith, h .left)) j
 
-  -- the place of a fact is in the area
-  pub told-place :
-      (c e′ : ℕ) → c < count t → e′ ≤ d → areaSize (count t) (length s) ≤ length w
-      → (count t ≤ 65535) × ((c < count t) × ((d ≤ 255) × (rowAt (count t) d c + e′ < length w)))
-  told-place c e′ l i room = (
-    omega (arith, count-bound t (h .passes)),
-    (l, (omega (arith, h .left, h .short), omega (arith, row-inside (count t) (length s) c d e′ l (h .left) i))),
-  )
+  -- a record's row of the part's bytes is in the area
+  pub row-told : (c : ℕ) → c < count t → areaSize (count t) (length s) ≤ length w → Inside (count t) d c w
+  row-told c l room = row-held (omega (arith, count-bound t (h .passes))) (omega (arith, h .left, h .short)) l (h .left) room
 
   -- the search for a cut, where some cut is spelled
   searched :

@@ -1,16 +1,18 @@
--- The search for the longest first part, from the whole part downward.
+-- The search for the longest first part, downward from the longest one that the area tells.
 -- Assumes nothing.
-use Prim.Native.Nat.{ℕ, _+_, _-_, _≤_, _<_}
+use Prim.Native.Nat.{ℕ, _-_, _≤_, _<_}
 use native.Mathlib.Nat.{eq-or-lt-of-le}
 use native.Mathlib.Omega.{arith}
-use mathlib.Core.Path.{_≡_, sym, _∙_, subst}
+use mathlib.Core.Path.{_≡_, refl, sym, _∙_, subst}
 use mathlib.Core.Bool.{Bool, true, false, true≢false}
 use mathlib.Core.List.{List}
 use mathlib.Core.Logic.{⊎-elim}
-use lib.ListN.{length}
-use Rattle.area.specs.Area.{rowAt, tells}
-use Rattle.area.proofs.Places.{row-inside}
+use Rattle.rows.specs.Layout.{longestAt, tells}
+use Rattle.rows.specs.Rows.{Inside}
+use Rattle.rows.proofs.Cuts.{below-or}
+use Rattle.rows.proofs.Growing.{told-above}
 use Rattle.matcher.specs.Walks.{ToldCut, Searched, LongestCut}
+use Rattle.matcher.proofs.Positions.{row-held}
 
 -- no cut is above c, and c is none below the lowest
 pub record Searching (m : ℕ) (w : List ℕ) (a b d e lowest c : ℕ) : Type 0 where
@@ -19,27 +21,27 @@ pub record Searching (m : ℕ) (w : List ℕ) (a b d e lowest c : ℕ) : Type 0 
   pub none-larger : (f : ℕ) → c < f → f ≤ e → tells m w a d f ≡ true → tells m w b (d - f) (e - f) ≡ true → ⊥
 
 module _ {m : ℕ} {w : List ℕ} {a b d e lowest : ℕ} (h : Searched m a b d e lowest w) where
-  pub search-start : Searching m w a b d e lowest e
-  search-start =
+  pub search-first : Inside m d a w
+  search-first = row-held (h .records) (h .left) (h .first) (h .inside) (h .held)
+
+  pub search-second : (c : ℕ) → Inside m (d - c) b w
+  search-second c = row-held (h .records) (omega (arith, h .left)) (h .second) (omega (arith, h .inside)) (h .held)
+
+  -- no first part is longer than the row's longest length
+  none-above : (f : ℕ) → longestAt w m d a < f → tells m w a d f ≡ true → ⊥
+  none-above f l p = true≢false (sym p ∙ sym (told-above w m a d f (longestAt w m d a) 0 (omega arith) refl l))
+
+  pub search-start : {x c : ℕ} → x ≡ longestAt w m d a → c ≡ e - (e - x) → Searching m w a b d e lowest c
+  search-start p q =
       record {
-        above = omega (arith, h .some-cut .above, h .some-cut .inside);
+        above = ⊎-elim (λ (l : longestAt w m d a < h .some). absurd (none-above (h .some) l (h .some-cut .front)))
+            (λ (l : h .some ≤ longestAt w m d a). omega (arith, h .some-cut .above, h .some-cut .inside))
+            (below-or (longestAt w m d a) (h .some));
         inside = omega arith;
-        none-larger = λ f l n p q. omega arith;
+        none-larger = λ f l n u v. none-above f (omega arith) u;
       }
 
   module _ {c : ℕ} (i : Searching m w a b d e lowest c) where
-    pub search-first : rowAt m d a + c < length w
-    search-first =
-        omega (arith, h .held, row-inside m (h .line) a d c (h .first) (h .inside) (omega (arith, i .inside, h .size)))
-
-    pub search-second : rowAt m (d - c) b + (e - c) < length w
-    search-second =
-        omega (
-          arith,
-          h .held,
-          row-inside m (h .line) b (d - c) (e - c) (h .second) (omega (arith, h .inside)) (omega (arith, i .inside, h .size)),
-        )
-
     pub search-found : {x y : Bool} → x ≡ tells m w a d c → x ≡ true → y ≡ tells m w b (d - c) (e - c) → y ≡ true → LongestCut m w a b d e lowest c
     search-found p p′ q q′ =
         record {

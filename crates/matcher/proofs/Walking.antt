@@ -14,7 +14,8 @@ use Rattle.regex.proofs.Ahead.{posix-unique}
 use Rattle.table.specs.Records.{count, kindAt, aAt, bAt, isLetter}
 use Rattle.table.specs.Expression.{expOf}
 use Rattle.table.proofs.Laws.{exp-empty, exp-letter}
-use Rattle.area.specs.Area.{areaSize, tells, part}
+use Rattle.rows.specs.Layout.{areaSize, tells}
+use Rattle.area.specs.Area.{part}
 use Rattle.reading.specs.Codec.{encode, encodeItems}
 use Rattle.reading.proofs.Codec.{encode-star}
 use Rattle.matcher.specs.Walks.{Here, Room, Stored, LongestCut, Given, Walked, Counted}

@@ -1,6 +1,6 @@
 -- What the walk from a told part to its reading is given and leaves.
 -- Assumes nothing.
-use Prim.Native.Nat.{ℕ, _+_, _-_, _≤_, _<_}
+use Prim.Native.Nat.{ℕ, _+_, _-_, _*_, _≤_, _<_, max}
 use mathlib.Core.Path.{_≡_}
 use mathlib.Core.Bool.{Bool, true}
 use mathlib.Core.List.{List}
@@ -12,10 +12,15 @@ use Rattle.table.specs.Records.{count}
 use Rattle.table.specs.Faults.{Passes}
 use Rattle.table.specs.Answers.{Said}
 use Rattle.table.specs.Expression.{expOf}
-use Rattle.area.specs.Area.{areaSize, tells, part, Told}
+use Rattle.rows.specs.Layout.{areaSize, tells}
+use Rattle.area.specs.Area.{part, Told}
 use Rattle.reading.specs.Codec.{iterations, encode}
 use Rattle.table.specs.Buffers.{ifRoom, after}
 use Rattle.reading.specs.Writing.{wrote}
+
+-- the bytes of the largest reading of a line of n bytes by a table of m records: "m times max(n, 1)" records of two bytes
+abbrev pub mostBytes : ℕ → ℕ → ℕ
+mostBytes m n = 2 * (m * max n 1)
 
 -- record k spells the first e of the last d bytes of the line, and the area tells the truth
 pub record Here (t s w : List ℕ) (k d e : ℕ) : Type 0 where

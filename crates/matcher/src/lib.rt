@@ -9,11 +9,11 @@ ghost use mathlib.Core.List.{_∷_, []};
 ghost use lib.ListN.{length};
 ghost use Rattle.table.specs.Records.{count, kindAt, isLetter};
 ghost use Rattle.table.specs.Answers.{says, gives};
-ghost use Rattle.area.specs.Area.{areaSize};
+ghost use Rattle.rows.specs.Layout.{areaSize};
 ghost use Rattle.reading.specs.Codec.{encode, encodeItems};
 ghost use Rattle.matcher.specs.Calls.{readSays, readLeaves, keepsWork, PosixWritten, Unbeaten};
 ghost use Rattle.matcher.specs.Demands.{Setting, NoneOutranks};
-ghost use Rattle.matcher.specs.Walks.{Here, Room, Stored, Searched, LongestCut, Given, Walked, Counted, Answered};
+ghost use Rattle.matcher.specs.Walks.{mostBytes, Here, Room, Stored, Searched, LongestCut, Given, Walked, Counted, Answered};
 use table::Answer;
 use table::Refusal;
 
@@ -42,10 +42,10 @@ fn longest_first_part(
     requires { ⌜ Searched m a b d e lowest (now work) ⌝ }
     ensures { λ r. ⌜ LongestCut m (now (work .entry)) a b d e lowest r ⌝ }
 {
-    let mut cut = e;
+    let mut cut = rows::lesser(e, rows::longest(work, m, d, a));
     while lowest < cut {
-        if area::tell(work, m, a, d, cut) {
-            if area::tell(work, m, b, d - cut, e - cut) {
+        if rows::tell(work, m, a, d, cut) {
+            if rows::tell(work, m, b, d - cut, e - cut) {
                 return cut;
             }
         }
@@ -133,7 +133,7 @@ fn walk_or(
     let m = table.len() / 4;
     let a = table::a_at(table, k) as usize;
     let b = table::b_at(table, k) as usize;
-    if area::tell(work, m, a, d, e) {
+    if rows::tell(work, m, a, d, e) {
         let next = put(out, at, 2, 0, writing);
         return walk(table, a, line, work, d, e, out, next, writing);
     }
@@ -253,13 +253,30 @@ fn walk(
     }
 }
 
-// The answer for a line that the start record spells: its reading is counted first and written where the buffer holds it.
+// The bytes of the largest reading of a line of n bytes by a table of m records.
+fn most_bytes(m: usize, n: usize) -> usize
+    requires { ⌜ m ≤ 65535 ⌝ }
+    requires { ⌜ n ≤ 255 ⌝ }
+    ensures { λ r. ⌜ r ≡ mostBytes m n ⌝ }
+{
+    if n == 0 {
+        return 2 * m;
+    }
+    2 * (m * n)
+}
+
+// The answer for a line that the start record spells. Where the buffer holds the largest reading there can be, its reading is written at
+// once; otherwise it is counted first and written where the buffer holds it.
 fn write_reading(table: &[u8], start: usize, line: &[u8], work: &[u8], out: &mut [u8]) -> Answer
     requires here { ⌜ Here (now table) (now line) (now work) start (length (now line)) (length (now line)) ⌝ }
     requires area { ⌜ areaSize (count (now table)) (length (now line)) ≤ length (now work) ⌝ }
     ensures { λ r. ⌜ Answered (now (table .entry)) (now (line .entry)) start (now (out .entry)) (now (out .exit)) (says r) ⌝ }
 {
     let n = line.len();
+    if most_bytes(table.len() / 4, n) <= out.len() {
+        let end = walk(table, start, line, work, n, n, out, 0, true);
+        return Answer::Done(end / 2);
+    }
     let need = walk(table, start, line, work, n, n, out, 0, false);
     if out.len() < need {
         return Answer::Refused(Refusal::Buffer(need));
@@ -297,12 +314,15 @@ pub fn read(table: &[u8], start: usize, line: &[u8], work: &mut [u8], out: &mut 
     if 255 < n {
         return Answer::Refused(Refusal::Line);
     }
-    let size = area::area_size(m, n);
+    let size = rows::area_size(m, n);
     if work.len() < size {
         return Answer::Refused(Refusal::Work);
     }
+    if !edges::may_spell(table, start, line) {
+        return Answer::Refused(Refusal::NoReading);
+    }
     area::fill(table, line, work);
-    if !area::tell(work, m, start, n, n) {
+    if !rows::tell(work, m, start, n, n) {
         return Answer::Refused(Refusal::NoReading);
     }
     write_reading(table, start, line, work, out)

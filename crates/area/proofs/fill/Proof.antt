@@ -1,54 +1,46 @@
--- `area::fill` meets its contract. The loop's invariant: the area is filled up to block `d`.
+-- `area::fill` meets its contract: what is found of the table is what the filling needs.
 -- Assumes nothing.
-use Prim.Native.Nat.{_≤_, _-_, _+_}
 use native.Mathlib.Omega.{arith}
-use Rattle.area.specs.Filling.{Filled}
-use Rattle.area.proofs.Filling.{told-none, told-all, filled-none, filled-after, sized-kept}
+use mathlib.Core.Path.{refl}
+use Rattle.table.proofs.Passing.{count-bound}
+use Rattle.area.proofs.Filling.{count-room}
+use borrow.Author.Needs.{needs}
 use Rattle.area.proofs.fill.Statement.{statement}
 use Rattle.area.proofs.fill.Tie as tie
 
-abbrev Inv-loop : tie.InvT-loop
-Inv-loop table line work₀ d₀ work d = (d ≤ lib.ListN.length line + 1) × Filled table line d 0 work₀ work
+find-empty-requires : tie.Need-find-empty-requires
+find-empty-requires c κs = (c .before .before .before .before .pre .0, count-room _ _ _ (c .before .before .before .before .pre .1 .1))
 
-abbrev μ-loop : tie.MeasureT-loop
-μ-loop table line work₀ d₀ work d = lib.ListN.length line + 1 - d
+find-bounds-requires : tie.Need-find-bounds-requires
+find-bounds-requires c κs = search needs
 
-loop-holds : tie.Need-loop-holds Inv-loop μ-loop
-loop-holds c = (omega arith, filled-none (told-none _ _ _))
+find-parents-requires : tie.Need-find-parents-requires
+find-parents-requires c κs = (c .before .before .before .before .before .before .before .before .before .before .before .before .pre .0, (c .before .before .before .find-bounds .ensures .size, (omega (arith, c .before .before .before .before .before .before .before .find-empty .ensures .1, count-room _ _ _ (c .before .before .before .before .before .before .before .before .before .before .before .before .pre .1 .1)), (c .before .before .before .before .before .before .before .find-empty .ensures .0, refl))))
 
-fill-block-requires : tie.Need-fill-block-requires Inv-loop μ-loop
-fill-block-requires c κs =
-    let i = c .before .before .loop .inv .1 in
-    let s = c .before .before .before .before .before .before in (
-      sized-kept _ _ (s .args .work .now) _ (record { passes = s .pre .0; short = s .pre .1 .0; room = s .pre .1 .1 }) (i .size),
-      (c .before .loop-test .taken, i .told),
-    )
+find-sets-requires : tie.Need-find-sets-requires
+find-sets-requires c κs = (count-bound _ (c .before .before .before .before .before .before .before .before .before .before .before .before .before .before .before .before .pre .0) .1, (c .before .before .before .before .before .before .before .find-bounds .ensures .size, (c .before .before .before .find-parents .ensures .size, refl)))
 
-add-d : tie.Need-add-d Inv-loop μ-loop
-add-d c = omega arith
+find-runs-requires : tie.Need-find-runs-requires
+find-runs-requires c κs = (count-bound _ (c .before .before .before .before .before .before .before .before .before .before .before .before .before .before .before .before .before .before .before .pre .0) .1, (c .before .before .before .before .before .before .before .before .before .before .find-bounds .ensures .size, refl))
 
-loop-less : tie.Need-loop-less Inv-loop μ-loop
-loop-less c = omega arith
+fill-bytes-requires : tie.Need-fill-bytes-requires
+fill-bytes-requires c κs = (record { passes = c .before .before .before .before .before .before .before .before .before .before .before .before .before .before .before .before .before .before .before .before .before .before .before .before .before .pre .0; short = c .before .before .before .before .before .before .before .before .before .before .before .before .before .before .before .before .before .before .before .before .before .before .before .before .before .pre .1 .0; room = omega (arith, c .before .before .before .before .before .before .before .before .before .before .before .before .before .before .before .before .before .before .before .before .find-empty .ensures .1, c .before .before .before .before .before .before .before .before .before .before .before .before .before .before .before .before .before .before .before .before .before .before .before .before .before .pre .1 .1) }, (record { bounded = c .before .before .before .before .before .before .before .before .before .before .before .before .before .before .before .before .find-bounds .ensures; parents = c .before .before .before .before .before .before .before .before .before .before .before .before .find-parents .ensures; waking = c .before .before .before .before .before .before .before .before .find-sets .ensures; listed = c .before .before .before .before .before .find-runs .ensures }, c .before .before .before .before .before .before .before .before .before .before .before .before .before .before .before .before .before .before .before .before .find-empty .ensures .0))
 
-loop-again : tie.Need-loop-again Inv-loop μ-loop
-loop-again c = (omega arith, filled-after _ (c .before .before .before .before .before .loop .inv .1 .size) (c .before .before .fill-block .ensures))
+same-length : tie.Need-same-length
+same-length c = search needs
 
-same-length : tie.Need-same-length Inv-loop μ-loop
-same-length c = c .before .loop .inv .1 .size
-
-returns : tie.Need-returns Inv-loop μ-loop
-returns c = let i = c .before .loop .inv .1 in (told-all _ _ _ _ (c .loop-test .left) (i .told), i .size)
+returns : tie.Need-returns
+returns c = search needs
 
 pub fill-spec : {M : Type 1} → statement M
 fill-spec =
     tie.close
     (tie.spec
-    Inv-loop
-    μ-loop
-    loop-holds
-    fill-block-requires
-    add-d
-    loop-less
-    loop-again
+    find-empty-requires
+    find-bounds-requires
+    find-parents-requires
+    find-sets-requires
+    find-runs-requires
+    fill-bytes-requires
     same-length
     returns)

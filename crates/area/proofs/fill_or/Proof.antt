@@ -1,67 +1,44 @@
 -- `area::fill_or` meets its contract, by the law of Or.
 -- Assumes nothing.
-use native.Mathlib.Omega.{arith}
+use Rattle.area.proofs.Records.{or-first, or-second, or-made}
 use mathlib.Core.Path.{_∙_}
-use Rattle.area.proofs.Filling.{row-small, child-small}
-use Rattle.area.proofs.Records.{or-places, or-filled}
+use borrow.Author.Needs.{needs}
 use Rattle.area.proofs.fill_or.Statement.{statement}
 use Rattle.area.proofs.fill_or.Tie as tie
 
-row-at-requires : tie.Need-row-at-requires
-row-at-requires c κs = row-small _ _ _ _ _ (c .before .before .before .pre .0 .ready)
+a-at-requires : tie.Need-a-at-requires
+a-at-requires c κs = search needs
 
-first-row-requires : tie.Need-first-row-requires
-first-row-requires c κs = child-small _ _ _ _ _ (c .before .before .before .before .pre .0 .ready)
+cast-add : tie.Need-cast-add
+cast-add c = search needs
 
-second-row-requires : tie.Need-second-row-requires
-second-row-requires c κs = child-small _ _ _ _ _ (c .before .before .before .before .before .pre .0 .ready)
+add-requires : tie.Need-add-requires
+add-requires c κs = or-first _ _ _ _ (c .before .before .before .before .before .pre .0) (c .before .before .before .before .before .pre .1) (c .a-at .ensures)
 
-add-join : tie.Need-add-join
-add-join c = omega (arith, row-small _ _ _ _ _ (c .before .before .before .before .before .before .before .pre .0 .ready))
+b-at-requires : tie.Need-b-at-requires
+b-at-requires c κs = search needs
 
-join-requires : tie.Need-join-requires
-join-requires c κs =
-    let s = c .before .before .before .before .before .before .before in
-    let f = c .before in
-    let g = f .before in
-    let h = or-places _ _ _ _ _ (s .pre .0) (s .pre .1) (g .before .row-at .ensures) (g .first-row .ensures) (f .second-row .ensures) in
-    (h .0, h .1)
+cast-add-2 : tie.Need-cast-add-2
+cast-add-2 c = search needs
 
-add-join-2 : tie.Need-add-join-2
-add-join-2 c =
-    let s = c .before .before .before .before .before .before .before .before .before .before .before in
-    omega (arith, row-small _ _ _ _ _ (s .pre .0 .ready))
-
-join-requires-2 : tie.Need-join-requires-2
-join-requires-2 c κs =
-    let s = c .before .before .before .before .before .before .before .before .before .before .before in
-    let f = c .before .before .before .before .before in
-    let g = f .before in
-    let h = or-places _ _ _ _ _ (s .pre .0) (s .pre .1) (g .before .row-at .ensures) (g .first-row .ensures) (f .second-row .ensures) in
-    (omega (arith, c .before .before .before .join .ensures .size), h .2)
+add-requires-2 : tie.Need-add-requires-2
+add-requires-2 c κs = or-second _ _ _ _ (c .before .before .before .before .before .before .before .before .before .before .pre .0) (c .before .before .before .before .before .before .before .before .before .before .pre .1) (c .before .before .before .before .before .a-at .ensures) (c .b-at .ensures) _ (c .before .before .before .before .add .ensures)
 
 same-length : tie.Need-same-length
-same-length c = c .before .before .join2 .ensures .size ∙ c .before .before .before .before .before .before .join .ensures .size
+same-length c = c .before .before .add2 .ensures .size ∙ c .before .before .before .before .before .before .before .add .ensures .size
 
 returns : tie.Need-returns
-returns c =
-    let s = c .before .before .before .before .before .before .before .before .before .before .before .before .before .before in
-    let f = c .before .before .before .before .before .before .before .before in
-    let g = f .before in
-    or-filled _ _ _ _ _ (s .pre .0) (s .pre .1) (g .before .row-at .ensures) (g .first-row .ensures) (f .second-row .ensures) _ _
-    (c .before .before .before .before .before .before .join .ensures)
-    (c .before .before .join2 .ensures)
+returns c = or-made _ _ _ _ (c .before .before .before .before .before .before .before .before .before .before .before .before .before .pre .0) (c .before .before .before .before .before .before .before .before .before .before .before .before .before .pre .1) (c .before .before .before .before .before .before .before .before .a-at .ensures) (c .before .before .before .b-at .ensures) _ _ (c .before .before .before .before .before .before .before .add .ensures) (c .before .before .add2 .ensures)
 
 pub fill-or-spec : {M : Type 1} → statement M
 fill-or-spec =
     tie.close
     (tie.spec
-    row-at-requires
-    first-row-requires
-    second-row-requires
-    add-join
-    join-requires
-    add-join-2
-    join-requires-2
+    a-at-requires
+    cast-add
+    add-requires
+    b-at-requires
+    cast-add-2
+    add-requires-2
     same-length
     returns)

@@ -1,43 +1,25 @@
--- `area::fill_star` meets its contract, by the laws of Star.
+-- `area::fill_star` meets its contract, by the law of Star.
 -- Assumes nothing.
-use native.Mathlib.Omega.{arith}
-use lib.ListN.{length-set}
-use Rattle.area.proofs.Filling.{row-small, child-small, row-room}
-use Rattle.area.proofs.Records.{star-joinable, star-filled}
+use Rattle.area.proofs.Records.{star-cutting, star-made}
+use borrow.Author.Needs.{needs}
 use Rattle.area.proofs.fill_star.Statement.{statement}
 use Rattle.area.proofs.fill_star.Tie as tie
 
-row-at-requires : tie.Need-row-at-requires
-row-at-requires c κs = row-small _ _ _ _ _ (c .before .before .before .pre .0 .ready)
+a-at-requires : tie.Need-a-at-requires
+a-at-requires c κs = search needs
 
-first-row-requires : tie.Need-first-row-requires
-first-row-requires c κs = child-small _ _ _ _ _ (c .before .before .before .before .pre .0 .ready)
+cast-add-cuts : tie.Need-cast-add-cuts
+cast-add-cuts c = search needs
 
-slice-write-work : tie.Need-slice-write-work
-slice-write-work c = omega (arith, row-room _ _ _ _ _ (c .before .before .before .before .before .pre .0 .ready), c .before .row-at .ensures)
-
-join-cuts-requires : tie.Need-join-cuts-requires
-join-cuts-requires c κs =
-    let s = c .before .before .before .before .before .before in
-    star-joinable _ _ _ _ _ (s .pre .0) (c .before .before .row-at .ensures) (c .before .first-row .ensures) (s .pre .1)
+add-cuts-requires : tie.Need-add-cuts-requires
+add-cuts-requires c κs = star-cutting _ _ _ _ (c .before .before .before .before .before .pre .0) (c .before .before .before .before .before .pre .1) (c .a-at .ensures)
 
 same-length : tie.Need-same-length
-same-length c = simp length-set at (c .before .before .join-cuts .ensures .size)
+same-length c = c .before .before .add-cuts .ensures .size
 
 returns : tie.Need-returns
-returns c =
-    let s = c .before .before .before .before .before .before .before .before .before in
-    let f = c .before .before .before .before in
-    star-filled _ _ _ _ _ (s .pre .0) (f .before .row-at .ensures) (f .first-row .ensures) (s .pre .1) _
-    (c .before .before .join-cuts .ensures)
+returns c = star-made _ _ _ _ (c .before .before .before .before .before .before .before .before .pre .0) (c .before .before .before .before .before .before .before .before .pre .1) (c .before .before .before .a-at .ensures) _ (c .before .before .add-cuts .ensures)
 
 pub fill-star-spec : {M : Type 1} → statement M
 fill-star-spec =
-    tie.close
-    (tie.spec
-    row-at-requires
-    first-row-requires
-    slice-write-work
-    join-cuts-requires
-    same-length
-    returns)
+    tie.close (tie.spec a-at-requires cast-add-cuts add-cuts-requires same-length returns)

@@ -6,7 +6,7 @@ use mathlib.Core.Path.{_≡_, sym, _∙_}
 use borrow.Author.Needs.{needs}
 use Rattle.table.specs.Records.{kindAt}
 use Rattle.table.proofs.Passing.{letter-at, kind-nothing}
-use Rattle.matcher.proofs.Positions.{record-there, not-nothing, told-place, or-a, or-b, seq-a, seq-b, seq-searched, star-a, star-searched}
+use Rattle.matcher.proofs.Positions.{record-there, not-nothing, row-told, or-a, or-b, seq-a, seq-b, seq-searched, star-a, star-searched}
 use Rattle.matcher.proofs.Storing.{stored-length}
 use Rattle.matcher.proofs.Walking.{headed-room, headed-given, headed-walked, left-headed, right-headed, star-headed, seq-room, seq-first, seq-second, seq-walked}
 use Rattle.matcher.proofs.Iterating.{Iterating, count-small, iterating-none, iterating-first, iterating-more, iterating-end}
@@ -28,7 +28,7 @@ use Rattle.matcher.proofs.+walk+walk_iterations+walk_or+walk_seq+walk_s
 use Rattle.matcher.proofs.walk_star.Reads as walk-star
 use Rattle.matcher.proofs.walk_star.Kinds as walk-star-kinds
 use Rattle.matcher.proofs.+walk+walk_iterations+walk_or+walk_seq+walk_star.Lts-walk_star as walk-star-lts
-use Rattle.area.proofs.tell.Reads as tell-reads
+use Rattle.rows.proofs.tell.Reads as tell-reads
 use Rattle.matcher.proofs.count_iterations.Reads as count-iterations-reads
 use Rattle.matcher.proofs.longest_first_part.Reads as longest-first-part-reads
 use Rattle.matcher.proofs.put.Reads as put-reads
@@ -278,7 +278,9 @@ walk-or-cast-b : (t : ℕ) → walk-or-lts.Need-cast-b (walk-or-claims t) (walk-
 walk-or-cast-b t c = search needs
 
 walk-or-tell-requires : (t : ℕ) → walk-or-lts.Need-tell-requires (walk-or-claims t) (walk-or-at t) walk-or.Post
-walk-or-tell-requires t c κs = told-place (c .before .before .before .before .before .before .pre .1 .0 .here) _ _ (omega (arith, or-a (c .before .before .before .before .before .before .pre .1 .0 .here) (c .before .a-at .ensures) (c .b-at .ensures) (c .before .before .before .before .before .before .pre .1 .1), c .before .before .before .before .before .before .pre .1 .0 .here .record-inside)) (omega (arith, c .before .before .before .before .before .before .pre .1 .0 .here .size)) (c .before .before .before .before .before .before .pre .1 .0 .area)
+walk-or-tell-requires t c κs =
+    let given = c .before .before .before .before .before .before .pre .1 in
+    (row-told (given .0 .here) _ (omega (arith, or-a (given .0 .here) (c .before .a-at .ensures) (c .b-at .ensures) (given .1), given .0 .here .record-inside)) (given .0 .area), omega (arith, given .0 .here .size))
 
 walk-or-put-requires : (t : ℕ) → walk-or-lts.Need-put-requires (walk-or-claims t) (walk-or-at t) walk-or.Post
 walk-or-put-requires t c κs = headed-room (left-headed (c .before .before .before .before .before .before .before .before .before .pre .1 .0 .here) (c .before .before .before .before .a-at .ensures) (c .before .before .before .b-at .ensures) (c .before .before .before .before .before .before .before .before .before .pre .1 .1) (c .before .before .tell .ensures) (c .before .if1 .taken)) (c .before .before .before .before .before .before .before .before .before .pre .1 .0)

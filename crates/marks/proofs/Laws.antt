@@ -1,0 +1,212 @@
+-- Laws of marks: bits of words, what a mark adds, which numbers a word of no bits or its trailing zeros pass, and copied words.
+-- Assumes nothing.
+use Prim.Native.Nat.{ℕ, zero, suc, _+_, _-_, _*_, _/_, _%_, _^_, _≤_, _<_, max}
+use native.Mathlib.Nat.{max-le, le-max-left, le-max-right, div-one, zero-div, zero-lt-suc, le-of-suc-le-suc}
+use native.Mathlib.Numerals.{one-add}
+use native.Mathlib.Omega.{arith}
+use mathlib.Core.Path.{_≡_, refl, sym, ap, _∙_, subst}
+use mathlib.Core.Logic.{_⊎_, inl, inr, ⊎-elim}
+use mathlib.Core.Bool.{Bool, true, false}
+use mathlib.Core.List.{List}
+use lib.Arith.{digits-mod, lt-one}
+use lib.Bits.{bitOr, or-step, or-shr}
+use lib.Count.{trailingZeros, under, trailing-le}
+use lib.Dec.{eqb, ltb, lit<}
+use lib.ListN.{length, getD, set, length-set}
+use lib.Pow.{shl-exact, shl-shr, shr-shr, shr-lt}
+use lib.Seq.{getD-set-same, getD-set-other}
+use borrow.Author.Tests.{eq-eqb, ne-eqb, eqb-true, eqb-false, ltb-true, ltb-false}
+use Rattle.marks.specs.Marks.{marked, MarkedToo, NextMarked, Copied}
+
+below-or : (x y : ℕ) → (x < y) ⊎ (y ≤ x)
+below-or x y = go (ltb x y) refl
+  where
+    go : (b : Bool) → ltb x y ≡ b → (x < y) ⊎ (y ≤ x)
+    go true h = inl (ltb-true x y h)
+    go false h = inr (ltb-false x y h)
+
+-- a mark is a bit that is 1
+pub marked-bit : (ws : List ℕ) (i : ℕ) → getD ws (i / 64) 0 / 2 ^ (i % 64) % 2 ≡ 1 → marked ws i ≡ true
+unfolding marked
+marked-bit ws i e = eq-eqb _ 1 e
+
+pub bit-marked : (ws : List ℕ) (i : ℕ) → marked ws i ≡ true → getD ws (i / 64) 0 / 2 ^ (i % 64) % 2 ≡ 1
+unfolding marked
+bit-marked ws i e = eqb-true _ 1 e
+
+pub unmarked-bit : (ws : List ℕ) (i : ℕ) → getD ws (i / 64) 0 / 2 ^ (i % 64) % 2 ≡ 0 → marked ws i ≡ false
+unfolding marked
+unmarked-bit ws i e = ne-eqb _ 1 (λ (q : getD ws (i / 64) 0 / 2 ^ (i % 64) % 2 ≡ 1). omega arith)
+
+-- the same bit of the same word is marked alike
+pub marked-alike : (us ws : List ℕ) (i j : ℕ) → getD us (i / 64) 0 ≡ getD ws (j / 64) 0 → i % 64 ≡ j % 64 → marked us i ≡ marked ws j
+unfolding marked
+marked-alike us ws i j w b = rw (w, b)
+
+-- a bit of `|`
+max-lt : (a b : ℕ) → max (a % 2) (b % 2) < 2
+max-lt a b =
+    let h : max (a % 2) (b % 2) ≤ 1 = max-le (omega arith) (omega arith) in
+    omega arith
+
+pub bit-or : (a b k : ℕ) → bitOr a b / 2 ^ k % 2 ≡ max (a / 2 ^ k % 2) (b / 2 ^ k % 2)
+bit-or a b k =
+    let x = a / 2 ^ k in
+    let y = b / 2 ^ k in
+    ap (λ (n : ℕ). n % 2) (or-shr a b k ∙ or-step x y) ∙ digits-mod (bitOr (x / 2) (y / 2)) (max-lt x y)
+
+pub bit-or-left : (a b k : ℕ) → a / 2 ^ k % 2 ≡ 1 → bitOr a b / 2 ^ k % 2 ≡ 1
+bit-or-left a b k e = omega (arith, bit-or a b k, le-max-left (a / 2 ^ k % 2) (b / 2 ^ k % 2))
+
+pub bit-or-right : (a b k : ℕ) → b / 2 ^ k % 2 ≡ 1 → bitOr a b / 2 ^ k % 2 ≡ 1
+bit-or-right a b k e = omega (arith, bit-or a b k, le-max-right (a / 2 ^ k % 2) (b / 2 ^ k % 2))
+
+-- bit k of 1 << k
+one-bit : (k : ℕ) → k < 64 → 1 * 2 ^ k % 2 ^ 64 / 2 ^ k % 2 ≡ 1
+one-bit k h = ap (λ (n : ℕ). n / 2 ^ k % 2) (shl-exact 1 k 64 (lit< tt) (omega arith)) ∙ ap (λ (n : ℕ). n % 2) (shl-shr 1 k)
+
+-- setting bit i % 64 of word i / 64 marks i
+pub marked-too : (ws : List ℕ) (i : ℕ) → i < 64 * length ws
+    → MarkedToo i ws (set ws (i / 64) (bitOr (getD ws (i / 64) 0) (1 * 2 ^ (i % 64) % 2 ^ 64)))
+marked-too ws i l =
+    record {
+      size = length-set ws (i / 64) v;
+      kept = λ j m. marked-bit (set ws (i / 64) v) j (still j (eqb (j / 64) (i / 64)) refl (bit-marked ws j m));
+      new =
+          marked-bit (set ws (i / 64) v) i
+          (rw here (bit-or-right (getD ws (i / 64) 0) (1 * 2 ^ (i % 64) % 2 ^ 64) (i % 64) (one-bit (i % 64) (omega arith))));
+    }
+  where
+    v : ℕ
+    v = bitOr (getD ws (i / 64) 0) (1 * 2 ^ (i % 64) % 2 ^ 64)
+
+    here : getD (set ws (i / 64) v) (i / 64) 0 ≡ v
+    here = getD-set-same ws (i / 64) v 0 (omega arith)
+
+    still : (j : ℕ) (b : Bool) → eqb (j / 64) (i / 64) ≡ b → getD ws (j / 64) 0 / 2 ^ (j % 64) % 2 ≡ 1
+        → getD (set ws (i / 64) v) (j / 64) 0 / 2 ^ (j % 64) % 2 ≡ 1
+    still j true e m =
+        let same : j / 64 ≡ i / 64 = eqb-true (j / 64) (i / 64) e in
+        let old : getD ws (i / 64) 0 / 2 ^ (j % 64) % 2 ≡ 1 = rw same at m in
+        rw (same, here) (bit-or-left (getD ws (i / 64) 0) (1 * 2 ^ (i % 64) % 2 ^ 64) (j % 64) old)
+    still j false e m = rw (getD-set-other ws (i / 64) (j / 64) v 0 (eqb-false (j / 64) (i / 64) e)) m
+
+-- the bits below the trailing zeros' end are 0
+below-under : (n d t i : ℕ) → n % 2 ≡ d → ((j : ℕ) → j < t → n / 2 / 2 ^ j % 2 ≡ 0) → i < under d t → n / 2 ^ i % 2 ≡ 0
+below-under n zero t zero e r h = ap (λ (x : ℕ). x % 2) (div-one n) ∙ e
+below-under n zero t (suc j) e r h =
+    ap (λ (x : ℕ). n / 2 ^ x % 2) (sym (one-add j)) ∙ ap (λ (x : ℕ). x % 2) (sym (shr-shr n 1 j)) ∙ r j (le-of-suc-le-suc h)
+below-under n (suc d) t i e r h = absurd (omega arith)
+
+pub below-trailing : (k n i : ℕ) → i < trailingZeros k n → n / 2 ^ i % 2 ≡ 0
+unfolding trailingZeros
+below-trailing zero n i h = absurd (omega arith)
+below-trailing (suc k) n i h = below-under n (n % 2) (trailingZeros k (n / 2)) i refl (λ j l. below-trailing k (n / 2) j l) h
+
+-- a word of m bits that is not 0 has fewer than m trailing zeros
+short-under : (n d t m : ℕ) → n < 2 ^ m → (n ≡ 0 → ⊥) → n % 2 ≡ d
+    → ((j : ℕ) → n / 2 < 2 ^ j → (n / 2 ≡ 0 → ⊥) → t < j) → under d t < m
+short-under n d t zero h z e r = absurd (z (lt-one h))
+short-under n zero t (suc m) h z e r =
+    let l : t < m = r m (shr-lt m 1 (subst (λ (x : ℕ). n < 2 ^ x) (omega arith) h)) (λ (q : n / 2 ≡ 0). z (omega arith)) in
+    omega arith
+short-under n (suc d) t (suc m) h z e r = zero-lt-suc m
+
+pub trailing-short : (k n m : ℕ) → n < 2 ^ m → (n ≡ 0 → ⊥) → trailingZeros k n < m
+unfolding trailingZeros
+trailing-short zero n zero h z = absurd (z (lt-one h))
+trailing-short zero n (suc m) h z = zero-lt-suc m
+trailing-short (suc k) n m h z =
+    short-under n (n % 2) (trailingZeros k (n / 2)) m h z refl (λ j l q. trailing-short k (n / 2) j l q)
+
+-- no number from a on below b is marked
+abbrev pub Passed : List ℕ → ℕ → ℕ → Type 0
+Passed ws a b = (j : ℕ) → a ≤ j → j < b → marked ws j ≡ false
+
+pub passed-on : (ws : List ℕ) (a b c : ℕ) → Passed ws a b → Passed ws b c → Passed ws a c
+passed-on ws a b c p q j l h = ⊎-elim (λ (k : j < b). p j l k) (λ (k : b ≤ j). q j k h) (below-or j b)
+
+-- the n bits of word q from bit s on are 0
+pub bits-passed : (ws : List ℕ) (q s n : ℕ) → s + n ≤ 64 → ((d : ℕ) → d < n → getD ws q 0 / 2 ^ s / 2 ^ d % 2 ≡ 0)
+    → Passed ws (64 * q + s) (64 * q + s + n)
+bits-passed ws q s n f z j l h =
+    let word : j / 64 ≡ q = omega arith in
+    let bit : j % 64 ≡ s + (j - (64 * q + s)) = omega arith in
+    unmarked-bit ws j
+    (rw (word, bit) (ap (λ (x : ℕ). x % 2) (sym (shr-shr (getD ws q 0) s (j - (64 * q + s)))) ∙ z (j - (64 * q + s)) (omega arith)))
+
+-- the rest of the word of `from`: nothing is marked where it is 0, and before its lowest bit
+pub rest-passed : (ws : List ℕ) (from : ℕ) → getD ws (from / 64) 0 / 2 ^ (from % 64) ≡ 0 → Passed ws from (64 * (from / 64 + 1))
+rest-passed ws from e =
+    let start : 64 * (from / 64) + from % 64 ≡ from = omega arith in
+    let stop : 64 * (from / 64) + from % 64 + (64 - from % 64) ≡ 64 * (from / 64 + 1) = omega arith in
+    let p : Passed ws (64 * (from / 64) + from % 64) (64 * (from / 64) + from % 64 + (64 - from % 64)) =
+    bits-passed ws (from / 64) (from % 64) (64 - from % 64) (omega arith) (λ d l. rw e (ap (λ (x : ℕ). x % 2) (zero-div (2 ^ d)))) in
+    λ j l h. p j (omega arith) (omega arith)
+
+pub lowest-passed : (ws : List ℕ) (from : ℕ) → getD ws (from / 64) 0 < 2 ^ 64 → (getD ws (from / 64) 0 / 2 ^ (from % 64) ≡ 0 → ⊥)
+    → Passed ws from (from + trailingZeros 64 (getD ws (from / 64) 0 / 2 ^ (from % 64)))
+lowest-passed ws from b n =
+    let word : ℕ = getD ws (from / 64) 0 / 2 ^ (from % 64) in
+    let sum : 64 ≡ 64 - from % 64 + from % 64 = omega arith in
+    let few : trailingZeros 64 word < 64 - from % 64 =
+    trailing-short 64 word (64 - from % 64) (shr-lt (64 - from % 64) (from % 64) (subst (λ (x : ℕ). getD ws (from / 64) 0 < 2 ^ x) sum b)) n in
+    let p : Passed ws (64 * (from / 64) + from % 64) (64 * (from / 64) + from % 64 + trailingZeros 64 word) =
+    bits-passed ws (from / 64) (from % 64) (trailingZeros 64 word) (omega arith) (λ d l. below-trailing 64 word d l) in
+    λ j l h. p j (omega arith) (omega arith)
+
+-- a whole word
+pub word-passed : (ws : List ℕ) (q : ℕ) → getD ws q 0 ≡ 0 → Passed ws (64 * q) (64 * (q + 1))
+word-passed ws q e =
+    let p : Passed ws (64 * q + 0) (64 * q + 0 + 64) =
+    bits-passed ws q 0 64 (omega arith)
+    (λ d l. rw e (ap (λ (x : ℕ). x / 2 ^ d % 2) (zero-div (2 ^ 0)) ∙ ap (λ (x : ℕ). x % 2) (zero-div (2 ^ d)))) in
+    λ j l h. p j (omega arith) (omega arith)
+
+pub word-lowest : (ws : List ℕ) (q : ℕ) → Passed ws (64 * q) (64 * q + trailingZeros 64 (getD ws q 0))
+word-lowest ws q =
+    let n : ℕ = trailingZeros 64 (getD ws q 0) in
+    let p : Passed ws (64 * q + 0) (64 * q + 0 + n) =
+    bits-passed ws q 0 n (omega (arith, trailing-le 64 (getD ws q 0)))
+    (λ d l. ap (λ (x : ℕ). x / 2 ^ d % 2) (div-one (getD ws q 0)) ∙ below-trailing 64 (getD ws q 0) d l) in
+    λ j l h. p j (omega arith) (omega arith)
+
+-- the lesser of a place that nothing marked stands before, and `end`
+pub next-lesser : (ws : List ℕ) (from end a r : ℕ) → from ≤ a → from ≤ end → Passed ws from a → r ≡ a - (a - end) → NextMarked ws from end r
+next-lesser ws from end a r l h p e =
+    record { not-before = omega arith; not-behind = omega arith; passed = λ j x y. p j x (omega arith) }
+
+-- `end`, where nothing marked stands before it
+pub next-end : (ws : List ℕ) (from end a : ℕ) → end ≤ a → from ≤ end → Passed ws from a → NextMarked ws from end end
+next-end ws from end a l h p = record { not-before = h; not-behind = omega arith; passed = λ j x y. p j x (omega arith) }
+
+-- words up to n are copied
+pub record CopiedTo (n at : ℕ) (from to to′ : List ℕ) : Type 0 where
+  pub size : length to′ ≡ length to
+  pub same : (i : ℕ) → i < n → getD to′ i 0 ≡ getD from (at + i) 0
+
+pub copied-none : (at : ℕ) (from to : List ℕ) → CopiedTo 0 at from to to
+copied-none at from to = record { size = refl; same = λ i h. absurd (omega arith) }
+
+pub copied-more : (n at : ℕ) (from to to′ : List ℕ) → CopiedTo n at from to to′ → n < length to
+    → CopiedTo (n + 1) at from to (set to′ n (getD from (at + n) 0))
+copied-more n at from to to′ p l =
+    record {
+      size = length-set to′ n (getD from (at + n) 0) ∙ p .size;
+      same = λ i h.
+          ⊎-elim
+          (λ (k : i < n). getD-set-other to′ n i (getD from (at + n) 0) 0 (λ q. omega arith) ∙ p .same i k)
+          (λ (k : n ≤ i).
+          let same : i ≡ n = omega arith in
+          rw same (getD-set-same to′ n (getD from (at + n) 0) 0 (omega (arith, p .size))))
+          (below-or i n);
+    }
+
+pub copied-all : (n at : ℕ) (from to to′ : List ℕ) → length to ≤ n → CopiedTo n at from to to′ → Copied at from to to′
+copied-all n at from to to′ l p =
+    record {
+      size = p .size;
+      same = λ i h.
+          let word : (64 * at + i) / 64 ≡ at + i / 64 = omega arith in
+          marked-alike to′ from i (64 * at + i) (rw word (p .same (i / 64) (omega arith))) (omega arith);
+    }

@@ -1,0 +1,2 @@
+-- Sets of numbers as bits.
+pub mod Marks
