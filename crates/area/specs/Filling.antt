@@ -81,7 +81,7 @@ pub record Woken (t bounds s : List ℕ) (k : ℕ) (w marks : List ℕ) : Type 0
       (i j : ℕ) → i < count t → j < count t → isPlain bounds j ≡ false → wakes t i j ≡ true → (i < k) ⊎ (isPlain bounds i ≡ true)
       → ¬ (longestAt w (count t) (length s) i ≡ 0) → marked marks j ≡ true
 
--- i is marked too, or n is 0 and nothing changed
+-- i is marked too, unless n is 0; what was marked still is
 pub record MarkedUnless (n i : ℕ) (marks marks′ : List ℕ) : Type 0 where
   pub size : length marks′ ≡ length marks
   pub kept : (j : ℕ) → marked marks j ≡ true → marked marks′ j ≡ true

@@ -60,7 +60,7 @@ pub record Bounded (t : List ℕ) (k : ℕ) (bounds : List ℕ) : Type 0 where
   pub plain : (j : ℕ) → j < k → isPlain bounds j ≡ true → Settled t bounds j
   pub others : (j : ℕ) → j < k → isPlain bounds j ≡ false → (isLetter t j ≡ false) × ((c : ℕ) → inBounds bounds j c ≡ false)
 
--- the record k of the columns, and of no other record's
+-- the columns of record k were stored, and those of no other record changed
 pub record Put (k low high low2 high2 repeat plain : ℕ) (bounds bounds′ : List ℕ) : Type 0 where
   pub size : length bounds′ ≡ length bounds
   pub own :

@@ -1,5 +1,6 @@
 -- The layout of the work area (document 01, "Read and its space"): for each record and each number d of bytes from a start to the line's end, a
--- header and a row. It is known only here, to the laws of this crate and to its functions; everything above goes by `tells` and `has`.
+-- header and a row. What is above goes by `tells`, `has` and `longestAt`; `plans` and `area` also by where headers and rows stand, to store those
+-- of block 0 and of plain records.
 -- Assumes nothing.
 use Prim.Native.Nat.{ℕ, zero, suc, _+_, _*_}
 use mathlib.Core.Bool.{Bool, cond, not, _&&_, _||_}
