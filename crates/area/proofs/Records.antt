@@ -8,12 +8,13 @@ use mathlib.Core.Logic.{_⊎_, inl, inr}
 use mathlib.Core.Bool.{Bool, true, false, true≢false, _&&_, _||_}
 use mathlib.Core.List.{List, [], _∷_}
 use lib.Dec.{leb, eqb}
-use lib.ListN.{length, getD, take}
+use lib.ListN.{length, getD, take, drop}
 use lib.Seq.{length-take-le}
 use borrow.Author.Tests.{ne-eqb, eqb-true, lt-leb}
 use Rattle.regex.specs.Expressions.{Exp, empty, seq, star}
 use Rattle.regex.specs.Spells.{spells}
 use Rattle.table.specs.Records.{count, kindAt, aAt, bAt, isLetter}
+use Rattle.table.specs.Faults.{Passes}
 use Rattle.table.specs.Expression.{expOf}
 use Rattle.table.specs.Letters.{LetterKind}
 use Rattle.table.proofs.Laws.{exp-nothing, exp-empty, exp-or, exp-seq, exp-star}
@@ -23,9 +24,9 @@ use Rattle.rows.specs.Cuts.{some, cutAt}
 use Rattle.rows.specs.Rows.{Shaped, Growing, Grown, Earlier, Cutting, behind, second, cutsJoined}
 use Rattle.rows.proofs.Places.{first-head, head-inside, size-grows}
 use Rattle.rows.proofs.Bytes.{set-byte, clear-byte}
-use Rattle.rows.proofs.Cuts.{below-or}
-use Rattle.area.specs.Filling.{truth, Known, Ready, Made}
-use Rattle.rows.proofs.Recurrences.{starts, rests, seq-cuts-apart, seq-of-star-cuts, star-cuts, star-chained}
+use Rattle.rows.proofs.Cuts.{below-or, some-same, cut-same}
+use Rattle.area.specs.Filling.{truth, Known, Ready, Made, Base}
+use Rattle.rows.proofs.Recurrences.{starts, rests, seq-cuts-apart, seq-of-star-cuts, star-cuts, star-chained, star-twice, star-same, seq-same}
 use Rattle.rows.proofs.Growing.{lowest-one, grown-same}
 use Rattle.rows.proofs.Joining.{grown-twice}
 use Rattle.area.proofs.Parts.{part-whole}
@@ -60,6 +61,23 @@ short-shape m d k w one h =
 empty-spells : (u : List ℕ) → 1 ≤ length u → spells empty u ≡ false
 empty-spells [] l = absurd (omega arith)
 empty-spells (c ∷ u) l = refl
+
+-- the record that a Star iterates, and a Star below it
+pub base-first : (t : List ℕ) → Passes t → (k : ℕ) → k < count t → kindAt t k ≡ 5 → (j : ℕ) → j ≡ aAt t k → Base t k j
+base-first t passes k l kind j ej =
+    let h : aAt t k < k = star-a-below t passes k l kind in
+    record { lower = omega arith; same = λ u. rw (exp-star t k kind h, ej) refl }
+
+pub base-next : (t : List ℕ) → Passes t → (k j : ℕ) → k < count t → Base t k j → kindAt t j ≡ 5 → (i : ℕ) → i ≡ aAt t j → Base t k i
+base-next t passes k j l base kind i ei =
+    let inner = base-first t passes j (omega (arith, base .lower)) kind i ei in
+    record {
+      lower = omega (arith, base .lower, inner .lower);
+      same = λ u.
+          base .same u
+          ∙ star-same (expOf t j) (star (expOf t i)) (inner .same) u
+          ∙ star-twice (expOf t i) u;
+    }
 
 -- the code's test for a Star
 star-seen : (t : List ℕ) (j : ℕ) {kind : ℕ} → kind ≡ kindAt t j → eqb kind 5 ≡ true → kindAt t j ≡ 5
@@ -188,7 +206,7 @@ module _ (t s : List ℕ) (k : ℕ) (w : List ℕ) (p : Ready t s k w) where
         }
 
     -- the row after its cuts
-    pub cut-facts : (x : List ℕ) → Grown m d k (cutsJoined m v d k i j (d + 1)) v x → (e : ℕ) → 1 ≤ e → e ≤ d
+    pub cut-facts : (x : List ℕ) → Grown m d k (cutsJoined m v d k i j 1 (d + 1)) v x → (e : ℕ) → 1 ≤ e → e ≤ d
         → has m x k d e ≡ (has m v k d e || some (cutAt (starts (expOf t i) s) (rests (expOf t j) s) 1 e) (suc e))
     cut-facts x g e l h =
         g .facts e l h ∙ ap (λ (b : Bool). has m v k d e || b) (cuts-told t s k v known i j e first (omega (arith, p .number)) second-in h)
@@ -200,7 +218,7 @@ module _ (t s : List ℕ) (k : ℕ) (w : List ℕ) (p : Ready t s k w) where
       cutting-star w q growing _ k (omega arith) (p .number) true (λ z. kind)
       (λ z c e one x y h i. absurd (true≢false (sym h ∙ fresh c one)))
 
-  pub star-made : kindAt t k ≡ 5 → {a : ℕ} → a ≡ aAt t k → (v : List ℕ) → Grown m d k (cutsJoined m w d k a k (d + 1)) w v → Made t s k w v
+  pub star-made : kindAt t k ≡ 5 → {a : ℕ} → a ≡ aAt t k → (v : List ℕ) → Grown m d k (cutsJoined m w d k a k 1 (d + 1)) w v → Made t s k w v
   star-made kind {a} ea v g =
       let l : aAt t k < k = star-child kind in
       grown-same (record { size = g .size; kept = g .kept; shape = g .shape; facts = λ e x y. refl })
@@ -208,6 +226,20 @@ module _ (t s : List ℕ) (k : ℕ) (w : List ℕ) (p : Ready t s k w) where
       cut-facts w q growing a k (omega arith) (p .number) v g e x y
       ∙ rw (fresh e x)
       (sym (whole e ∙ rw (exp-star t k kind l, ← ea) (star-cuts (expOf t a) s e x y))))
+
+  -- a Star of a Star has the row of its child
+  pub star-of-star-made : kindAt t k ≡ 5 → {a : ℕ} → a ≡ aAt t k → kindAt t a ≡ 5 → (v : List ℕ)
+      → Grown m d k (λ e. has m w k d e || behind m w a d d e) w v
+      → Made t s k w v
+  star-of-star-made kind {a} ea five v g =
+      let l : aAt t k < k = star-child kind in
+      let a-low : a < k = omega arith in
+      let inner : expOf t a ≡ star (expOf t (aAt t a)) =
+      exp-star t a five (star-a-below t (q .sized .passes) a (omega (arith, p .number)) five) in
+      grown-same (record { size = g .size; kept = g .kept; shape = g .shape; facts = λ e x y. refl })
+      (λ e x y.
+      added-facts a a-low v g e x y
+      ∙ sym (whole e ∙ rw (exp-star t k kind l, ← ea) (rw inner (star-twice (expOf t (aAt t a)) (take e s)))))
 
   -- a Seq whose first child does not spell the empty line
   module _ (kind : kindAt t k ≡ 4) {a b : ℕ} (ea : a ≡ aAt t k) (eb : b ≡ bAt t k) where
@@ -230,7 +262,7 @@ module _ (t s : List ℕ) (k : ℕ) (w : List ℕ) (p : Ready t s k w) where
         cutting-star w q growing a b a-low (omega (arith, b-low, p .number)) _ (star-seen t b h)
         (λ z c e one x y i j. absurd (true≢false (sym i ∙ fresh c one)))
 
-    pub without-made : spells (expOf t (aAt t k)) [] ≡ false → (v : List ℕ) → Grown m d k (cutsJoined m w d k a b (d + 1)) w v → Made t s k w v
+    pub without-made : spells (expOf t (aAt t k)) [] ≡ false → (v : List ℕ) → Grown m d k (cutsJoined m w d k a b 1 (d + 1)) w v → Made t s k w v
     without-made none v g =
         grown-same (record { size = g .size; kept = g .kept; shape = g .shape; facts = λ e x y. refl })
         (λ e x y.
@@ -263,7 +295,7 @@ module _ (t s : List ℕ) (k : ℕ) (w : List ℕ) (p : Ready t s k w) where
               star-chained (expOf t (aAt t b)) s 0 c e (omega arith) x (rw (sub-zero c) (rw star-rule at front)) (rw star-rule at back) in
               added-facts b b-low u g e (omega arith) y ∙ rw star-rule (rw (sub-zero e) at joined)
 
-      pub with-made : spells (expOf t (aAt t k)) [] ≡ true → (v : List ℕ) → Grown m d k (cutsJoined m u d k a b (d + 1)) u v → Made t s k w v
+      pub with-made : spells (expOf t (aAt t k)) [] ≡ true → (v : List ℕ) → Grown m d k (cutsJoined m u d k a b 1 (d + 1)) u v → Made t s k w v
       with-made some-empty v h =
           grown-same (grown-twice g (record { size = h .size; kept = h .kept; shape = h .shape; facts = λ e x y. refl }))
           (λ e x y.
@@ -271,32 +303,30 @@ module _ (t s : List ℕ) (k : ℕ) (w : List ℕ) (p : Ready t s k w) where
           cut-facts u known-u growing-u a b a-low (omega (arith, b-low, p .number)) v h e x y
           ∙ rw (added-facts b b-low u g e x y) (sym (seq-truth e y ∙ rw z)))
 
-      -- one whose first child is a Star of record i
-      module _ (five : kindAt t (aAt t k) ≡ 5) {i : ℕ} (ei : i ≡ aAt t (aAt t k)) where
+      -- one whose first child spells the lines of a Star of record i
+      module _ {i : ℕ} (base : Base t (aAt t k) i) where
         i-low : i < k
-        i-low =
-            let l : aAt t k < k = a-child (inr kind) in
-            let h : aAt t (aAt t k) < aAt t k = star-a-below t (q .sized .passes) (aAt t k) (omega (arith, p .number)) five in
-            omega arith
+        i-low = let l : aAt t k < k = a-child (inr kind) in omega (arith, base .lower)
 
-        star-rule : expOf t k ≡ seq (star (expOf t i)) (expOf t b)
-        star-rule =
-            let l : aAt t k < k = a-child (inr kind) in
-            rw (ei, eb)
-            (exp-seq t k kind l (b-child (inr kind))
-            ∙ ap (λ (r : Exp). seq r (expOf t (bAt t k)))
-            (exp-star t (aAt t k) five (star-a-below t (q .sized .passes) (aAt t k) (omega (arith, p .number)) five)))
+        of-star : (u : List ℕ) → spells (expOf t k) u ≡ spells (seq (star (expOf t i)) (expOf t b)) u
+        of-star u = rw rule (seq-same (expOf t a) (star (expOf t i)) (expOf t b) (λ v. rw ea (base .same v)) u)
 
         pub of-star-cutting : Cutting m d k i k false u
         of-star-cutting = cutting-plain u known-u growing-u i k i-low (p .number)
 
-        pub of-star-made : (v : List ℕ) → Grown m d k (cutsJoined m u d k i k (d + 1)) u v → Made t s k w v
+        pub of-star-made : (v : List ℕ) → Grown m d k (cutsJoined m u d k i k 1 (d + 1)) u v → Made t s k w v
         of-star-made v h =
             grown-same (grown-twice g (record { size = h .size; kept = h .kept; shape = h .shape; facts = λ e x y. refl }))
             (λ e x y.
             cut-facts u known-u growing-u i k i-low (p .number) v h e x y
             ∙ rw (added-facts b b-low u g e x y)
-            (sym (whole e ∙ rw star-rule (seq-of-star-cuts (expOf t i) (expOf t b) s e y))))
+            (ap (λ (o : Bool). starts (expOf t b) s e || o)
+            (some-same (cutAt (starts (expOf t i) s) (rests (expOf t k) s) 1 e)
+            (cutAt (starts (expOf t i) s) (rests (seq (star (expOf t i)) (expOf t b)) s) 1 e) (suc e)
+            (λ c z.
+            cut-same (starts (expOf t i) s) (starts (expOf t i) s) (rests (expOf t k) s) (rests (seq (star (expOf t i)) (expOf t b)) s) 1 e c
+            (λ o n. refl) (λ o n. of-star (take (e - c) (drop c s)))))
+            ∙ sym (whole e ∙ of-star (take e s) ∙ seq-of-star-cuts (expOf t i) (expOf t b) s e y)))
 
 -- what the code's calls need, in the order of the code
 module _ (t s : List ℕ) (k : ℕ) (w : List ℕ) (p : Ready t s k w) where
@@ -322,6 +352,10 @@ module _ (t s : List ℕ) (k : ℕ) (w : List ℕ) (p : Ready t s k w) where
         added-growing t s k w p a (omega arith) u g,
         lower-earlier t s k u (added-known t s k w p a (omega arith) u g) b (omega arith) (omega (arith, p .number)),
       )
+
+  pub star-first : kindAt t k ≡ 5 → {a : ℕ} → a ≡ aAt t k
+      → Growing (count t) (length s) k w × Earlier (count t) (length s) k a (length s) w
+  star-first kind ea = let l : aAt t k < k = star-child t s k w p kind in child-adds _ (omega arith)
 
   pub seq-first : kindAt t k ≡ 4 → {b : ℕ} → b ≡ bAt t k
       → Growing (count t) (length s) k w × Earlier (count t) (length s) k b (length s) w

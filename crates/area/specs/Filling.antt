@@ -9,6 +9,7 @@ use mathlib.Core.List.{List}
 use lib.Bits.{bitAnd}
 use lib.Dec.{leb}
 use lib.ListN.{length, getD, drop}
+use Rattle.regex.specs.Expressions.{star}
 use Rattle.regex.specs.Spells.{spells}
 use Rattle.table.specs.Records.{count}
 use Rattle.table.specs.Faults.{Passes}
@@ -54,6 +55,11 @@ pub record Ready (t s : List ℕ) (k : ℕ) (w : List ℕ) : Type 0 where
 -- record k's row was made
 abbrev pub Made : List ℕ → List ℕ → ℕ → List ℕ → List ℕ → Type 0
 Made t s k w w′ = Grown (count t) (length s) k (truth t s k (length s)) w w′
+
+-- record k spells the lines of a Star of the lower record j
+pub record Base (t : List ℕ) (k j : ℕ) : Type 0 where
+  pub lower : j < k
+  pub same : (u : List ℕ) → spells (expOf t k) u ≡ spells (star (expOf t j)) u
 
 -- the headers of plain records that repeat are the numbers of bytes from there on that are in their ranges
 abbrev pub RunsTold : List ℕ → List ℕ → List ℕ → ℕ → List ℕ → Type 0

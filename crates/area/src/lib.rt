@@ -15,7 +15,7 @@ ghost use Rattle.table.specs.Expression.{expOf};
 ghost use Rattle.rows.specs.Layout.{areaSize, longestAt};
 ghost use Rattle.plans.specs.Plans.{inEither, Bounded, Parents, EmptyTold, Planned};
 ghost use Rattle.area.specs.Area.{Told};
-ghost use Rattle.area.specs.Filling.{Sized, Ready, Made, Progress, Visited, Woken, MarkedUnless, FilledFor, Seeded, LowsSet};
+ghost use Rattle.area.specs.Filling.{Sized, Ready, Made, Progress, Visited, Woken, MarkedUnless, FilledFor, Seeded, LowsSet, Base};
 
 // Whether c is within one of two ranges, as 1 or 0.
 fn in_either(low: u8, high: u8, low2: u8, high2: u8, c: u8) -> u8
@@ -104,6 +104,22 @@ fn fill_or(table: &[u8], rest: &[u8], work: &mut [u8], k: usize)
     rows::add(work, m, d, k, table::b_at(table, k) as usize, d);
 }
 
+// The record that a Star iterates, below all the Stars of Stars: a Star of it spells the same lines.
+fn base_of(table: &[u8], k: usize) -> usize
+    requires { ⌜ Passes (now table) ⌝ }
+    requires { ⌜ k < count (now table) ⌝ }
+    requires { ⌜ kindAt (now table) k ≡ 5 ⌝ }
+    ensures { λ r. ⌜ Base (now (table .entry)) k r ⌝ }
+{
+    let mut j = table::a_at(table, k) as usize;
+    let mut kind = table::kind_at(table, j);
+    while kind == 5 {
+        j = table::a_at(table, j) as usize;
+        kind = table::kind_at(table, j);
+    }
+    j
+}
+
 // The row of a Seq whose first child is a Star: the second child's row, and for each iteration its own row behind it.
 fn fill_seq_of_star(table: &[u8], rest: &[u8], work: &mut [u8], k: usize)
     requires { ⌜ Ready (now table) (now rest) k (now work) ⌝ }
@@ -113,9 +129,9 @@ fn fill_seq_of_star(table: &[u8], rest: &[u8], work: &mut [u8], k: usize)
 {
     let m = table.len() / 4;
     let d = rest.len();
-    let star = table::a_at(table, k) as usize;
+    let base = base_of(table, table::a_at(table, k) as usize);
     rows::add(work, m, d, k, table::b_at(table, k) as usize, d);
-    rows::add_cuts(work, m, d, k, table::a_at(table, star) as usize, k, false);
+    rows::add_cuts(work, m, d, k, base, k, false);
 }
 
 // The row of a Seq whose first child spells the empty line: the second child's row, and for each part of at least one byte that the first
@@ -180,7 +196,7 @@ fn fill_seq(table: &[u8], rest: &[u8], work: &mut [u8], k: usize)
     fill_seq_with_empty(table, rest, work, k);
 }
 
-// The row of a Star: for each part of at least one byte that the child spells, its own row behind it.
+// The row of a Star: for each part of at least one byte that the child spells, its own row behind it; that of a Star of a Star is the child's.
 fn fill_star(table: &[u8], rest: &[u8], work: &mut [u8], k: usize)
     requires { ⌜ Ready (now table) (now rest) k (now work) ⌝ }
     requires { ⌜ kindAt (now table) k ≡ 5 ⌝ }
@@ -188,7 +204,12 @@ fn fill_star(table: &[u8], rest: &[u8], work: &mut [u8], k: usize)
 {
     let m = table.len() / 4;
     let d = rest.len();
-    rows::add_cuts(work, m, d, k, table::a_at(table, k) as usize, k, true);
+    let a = table::a_at(table, k) as usize;
+    if table::kind_at(table, a) == 5 {
+        rows::add(work, m, d, k, a, d);
+        return;
+    }
+    rows::add_cuts(work, m, d, k, a, k, true);
 }
 
 // Record k's row in the block of all of `rest`.

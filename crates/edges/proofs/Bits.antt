@@ -1,6 +1,6 @@
--- What `|`, `&` and a product do to the three bits of a record.
+-- What `|`, `&` and a mask do to the three bits of a record.
 -- Assumes nothing.
-use Prim.Native.Nat.{ℕ, _*_}
+use Prim.Native.Nat.{ℕ, _*_, _/_, _^_}
 use native.Mathlib.Omega.{arith}
 use mathlib.Core.Path.{_≡_, refl}
 use mathlib.Core.Bool.{Bool, true, false, _&&_, _||_}
@@ -78,7 +78,7 @@ or-bits true true true true true true = refl
 -- what `seq_bits` computes
 abbrev pub seqBits : (a b : ℕ) → ℕ
 seqBits a b =
-    bitOr (bitOr (bitOr (bitOr (bitAnd (bitAnd a b) 1) (bitAnd a 2)) (bitAnd b 4)) (bitAnd (bitAnd a 1 * 2) b)) (bitAnd (bitAnd b 1 * 4) a)
+    bitOr (bitAnd a (bitOr (b / 2 ^ 7 * 255) 1)) (bitAnd b (bitOr (a / 2 ^ 7 * 255) 2))
 
 seq-bits :
     (e1 f1 l1 e2 f2 l2 : Bool)
@@ -151,7 +151,7 @@ seq-bits true true true true true true = refl
 pub seq-right : (a b : ℕ) → SeqBits a b (seqBits a b)
 seq-right a b e1 f1 l1 e2 f2 l2 m n = rw (m, n) (seq-bits e1 f1 l1 e2 f2 l2)
 
-pub star-bits : (e f l : Bool) → bitOr (bits e f l) 1 ≡ bits true f l
+pub star-bits : (e f l : Bool) → bitOr (bits e f l) 128 ≡ bits true f l
 star-bits false false false = refl
 star-bits false false true = refl
 star-bits false true false = refl
@@ -161,23 +161,23 @@ star-bits true false true = refl
 star-bits true true false = refl
 star-bits true true true = refl
 
--- bits 2 and 4
-pub no-start : (e f l : Bool) → bitAnd (bits e f l) 2 ≡ 0 → f ≡ false
+-- bits 1 and 2
+pub no-start : (e f l : Bool) → bitAnd (bits e f l) 1 ≡ 0 → f ≡ false
 no-start false false false z = refl
 no-start false false true z = refl
-no-start false true false z = absurd (let o : _≡_ {A = ℕ} 2 0 = z in omega arith)
-no-start false true true z = absurd (let o : _≡_ {A = ℕ} 2 0 = z in omega arith)
+no-start false true false z = absurd (let o : _≡_ {A = ℕ} 1 0 = z in omega arith)
+no-start false true true z = absurd (let o : _≡_ {A = ℕ} 1 0 = z in omega arith)
 no-start true false false z = refl
 no-start true false true z = refl
-no-start true true false z = absurd (let o : _≡_ {A = ℕ} 2 0 = z in omega arith)
-no-start true true true z = absurd (let o : _≡_ {A = ℕ} 2 0 = z in omega arith)
+no-start true true false z = absurd (let o : _≡_ {A = ℕ} 1 0 = z in omega arith)
+no-start true true true z = absurd (let o : _≡_ {A = ℕ} 1 0 = z in omega arith)
 
-pub no-end : (e f l : Bool) → bitAnd (bits e f l) 4 ≡ 0 → l ≡ false
+pub no-end : (e f l : Bool) → bitAnd (bits e f l) 2 ≡ 0 → l ≡ false
 no-end false false false z = refl
-no-end false false true z = absurd (let o : _≡_ {A = ℕ} 4 0 = z in omega arith)
+no-end false false true z = absurd (let o : _≡_ {A = ℕ} 2 0 = z in omega arith)
 no-end false true false z = refl
-no-end false true true z = absurd (let o : _≡_ {A = ℕ} 4 0 = z in omega arith)
+no-end false true true z = absurd (let o : _≡_ {A = ℕ} 2 0 = z in omega arith)
 no-end true false false z = refl
-no-end true false true z = absurd (let o : _≡_ {A = ℕ} 4 0 = z in omega arith)
+no-end true false true z = absurd (let o : _≡_ {A = ℕ} 2 0 = z in omega arith)
 no-end true true false z = refl
-no-end true true true z = absurd (let o : _≡_ {A = ℕ} 4 0 = z in omega arith)
+no-end true true true z = absurd (let o : _≡_ {A = ℕ} 2 0 = z in omega arith)

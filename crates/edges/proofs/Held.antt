@@ -1,4 +1,4 @@
--- Every byte of a line that a record spells is held by a letter of the table.
+-- Every byte of a line that a record spells is held by a letter of the table, up to that record.
 -- Assumes nothing.
 use Prim.Native.Nat.{ℕ, zero, suc, _+_, _-_, _≤_, _<_}
 use native.Mathlib.Omega.{arith}
@@ -81,12 +81,15 @@ held-in (seq r1 r2) s h i l =
     (of-joined (h .s1) (h .s2) s i (h .joined) l)
 held-in (star r) s h i l = iterated-held (HeldIn r) (held-in r) h i l
 
--- a letter of the table holds the byte
-abbrev HeldBy : List ℕ → ℕ → Type 0
-HeldBy t c = (j : ℕ) × (j < count t) × (isLetter t j ≡ true) × (holds (byteSetAt t j) c ≡ true)
+-- a letter of the table up to record k holds the byte
+abbrev HeldBy : List ℕ → (k c : ℕ) → Type 0
+HeldBy t k c = (j : ℕ) × (j ≤ k) × (isLetter t j ≡ true) × (holds (byteSetAt t j) c ≡ true)
 
--- a letter of a record's expression is one of the table: n bounds the record's number
-held-by : (n : ℕ) (t : List ℕ) → Passes t → (k : ℕ) → k < n → k < count t → (c : ℕ) → HeldIn (expOf t k) c → HeldBy t c
+held-higher : (t : List ℕ) (a k c : ℕ) → a ≤ k → HeldBy t a c → HeldBy t k c
+held-higher t a k c l h = (h .0, omega (arith, h .1), h .2, h .3)
+
+-- a letter of a record's expression is one of the table up to it: n bounds the record's number
+held-by : (n : ℕ) (t : List ℕ) → Passes t → (k : ℕ) → k < n → k < count t → (c : ℕ) → HeldIn (expOf t k) c → HeldBy t k c
 held-by zero t p k m l c h = absurd (omega arith)
 held-by (suc n) t p k m l c h =
     ⊎-elim
@@ -96,7 +99,7 @@ held-by (suc n) t p k m l c h =
     (λ (z : kindAt t k ≡ 1). absurd (rw (exp-empty t k z) at h))
     (λ (z : LetterKind (kindAt t k)).
     let i : isLetter t k ≡ true = letter-at t k refl z in
-    (k, l, i, rw (exp-letter t k i) at h))))
+    (k, omega arith, i, rw (exp-letter t k i) at h))))
     (⊎-elim
     (λ (z : (kindAt t k ≡ 3) ⊎ (kindAt t k ≡ 4)).
     let a : aAt t k < k = a-below t p k l z in
@@ -107,16 +110,16 @@ held-by (suc n) t p k m l c h =
     (λ (y : kindAt t k ≡ 4). rw (exp-seq t k y a b) at h)
     z in
     ⊎-elim
-    (held-by n t p (aAt t k) (omega arith) (omega arith) c)
-    (held-by n t p (bAt t k) (omega arith) (omega arith) c)
+    (λ y. held-higher t (aAt t k) k c (omega arith) (held-by n t p (aAt t k) (omega arith) (omega arith) c y))
+    (λ y. held-higher t (bAt t k) k c (omega arith) (held-by n t p (bAt t k) (omega arith) (omega arith) c y))
     both)
     (λ (z : kindAt t k ≡ 5).
     let a : aAt t k < k = star-a-below t p k l z in
-    held-by n t p (aAt t k) (omega arith) (omega arith) c (rw (exp-star t k z a) at h)))
+    held-higher t (aAt t k) k c (omega arith) (held-by n t p (aAt t k) (omega arith) (omega arith) c (rw (exp-star t k z a) at h))))
     (kinds (kindAt t k) (kind-small t p k l))
 
 pub byte-held :
     (t : List ℕ) → Passes t → (k : ℕ) → k < count t → (s : List ℕ) → spells (expOf t k) s ≡ true → (i : ℕ) → i < length s
-    → (j : ℕ) × (j < count t) × (isLetter t j ≡ true) × (holds (byteSetAt t j) (getD s i 0) ≡ true)
+    → (j : ℕ) × (j ≤ k) × (isLetter t j ≡ true) × (holds (byteSetAt t j) (getD s i 0) ≡ true)
 byte-held t p k l s h i m =
     held-by (suc k) t p k (omega arith) l (getD s i 0) (held-in (expOf t k) s (spells-sound (expOf t k) s h) i m)

@@ -7,7 +7,7 @@ use mathlib.Core.Path.{_≡_, refl, sym, ap, _∙_, subst}
 use mathlib.Core.Logic.{_⊎_, inl, inr, ⊎-elim}
 use mathlib.Core.Bool.{Bool, true, false, _&&_, _||_, true≢false}
 use mathlib.Core.List.{List}
-use lib.Bits.{bitOr, bitAnd, and-mask}
+use lib.Bits.{bitOr, bitAnd, and-mask, and-mod}
 use lib.Dec.{eqb, ltb, leb}
 use lib.ListN.{length, getD, set, length-set}
 use lib.Pow.{shl-exact, shl-shr, shr-shr, shr-lt, pow-pos, ones-split, ones-lt, high}
@@ -22,7 +22,7 @@ use Rattle.table.specs.Expression.{expOf}
 use Rattle.table.proofs.Passing.{or-true, and-both, letter-kinds}
 use Rattle.marks.specs.Marks.{marked}
 use Rattle.marks.proofs.Laws.{marked-bit, bit-marked, unmarked-bit, bit-or-left, bit-or-right}
-use Rattle.edges.specs.Held.{MarkedFrom, LettersMarked, Unmarked}
+use Rattle.edges.specs.Held.{MarkedFrom, MarkedIn, LettersMarked, Unmarked}
 use Rattle.edges.proofs.Held.{byte-held}
 
 -- an index is below a bound or not
@@ -99,20 +99,49 @@ module _ (ws : List ℕ) (low high : ℕ) (size : length ws ≡ 4) (some : low <
           rw (same, here) (bit-or-left (getD ws (low / 64) 0) run (j % 64) old)
       still j false e m = rw (getD-set-other ws (low / 64) (j / 64) v 0 (eqb-false (j / 64) (low / 64) e)) m
 
--- ranges one after the other
-pub from-none : (low : ℕ) (ws : List ℕ) → MarkedFrom low low ws ws
-from-none low ws = record { size = refl; kept = λ j m. m; new = λ j l h. absurd (omega arith) }
+-- no number is to be marked
+pub from-none : (low high : ℕ) (ws : List ℕ) → high ≤ low → MarkedFrom low high ws ws
+from-none low high ws n = record { size = refl; kept = λ j m. m; new = λ j l h. absurd (omega arith) }
 
-pub from-more : (low at high : ℕ) (ws ws′ ws″ : List ℕ) → MarkedFrom low at ws ws′ → MarkedFrom at high ws′ ws″ → MarkedFrom low high ws ws″
-from-more low at high ws ws′ ws″ p q =
+module _ (w low high : ℕ) (ws : List ℕ) where
+  pub in-none : (w ≤ low) ⊎ (high ≤ w) → MarkedIn w (64 * low + 64) (64 * high) ws ws
+  in-none o = record { size = refl; kept = λ j m. m; new = λ j l h e. absurd (go j l h e o) }
+    where
+      go : (j : ℕ) → 64 * low + 64 ≤ j → j < 64 * high → j / 64 ≡ w → (w ≤ low) ⊎ (high ≤ w) → ⊥
+      go j l h e (inl n) = omega arith
+      go j l h e (inr n) = omega arith
+
+  pub in-word : (ws′ : List ℕ) → MarkedFrom (64 * w) (64 * w + 64) ws ws′ → MarkedIn w (64 * low + 64) (64 * high) ws ws′
+  in-word ws′ p = record { size = p .size; kept = p .kept; new = λ j l h e. p .new j (omega arith) (omega arith) }
+
+-- a range over several words: the first, those between, and the last
+pub range-parts : (a b low high : ℕ) (v w x y z : List ℕ) → low ≡ a / 64 → high ≡ b / 64 → high ≤ 3
+    → MarkedFrom a (64 * low + 64) v w
+    → MarkedIn 1 (64 * low + 64) (64 * high) w x
+    → MarkedIn 2 (64 * low + 64) (64 * high) x y
+    → MarkedFrom (64 * high) (b + 1) y z
+    → MarkedFrom a (b + 1) v z
+range-parts a b low high v w x y z el eh top p q r s =
     record {
-      size = q .size ∙ p .size;
-      kept = λ j m. q .kept j (p .kept j m);
-      new = λ j l h. ⊎-elim (λ (y : j < at). q .kept j (p .new j l y)) (λ (y : at ≤ j). q .new j y h) (below-or j at);
+      size = s .size ∙ r .size ∙ q .size ∙ p .size;
+      kept = λ j m. s .kept j (r .kept j (q .kept j (p .kept j m)));
+      new = new;
     }
-
-pub from-end : (low at high : ℕ) (ws ws′ : List ℕ) → MarkedFrom low at ws ws′ → high ≤ at → MarkedFrom low high ws ws′
-from-end low at high ws ws′ p e = record { size = p .size; kept = p .kept; new = λ j l h. p .new j l (omega arith) }
+  where
+    new : (j : ℕ) → a ≤ j → j < b + 1 → marked z j ≡ true
+    new j l h =
+        ⊎-elim
+        (λ (e : j < 64 * low + 64). s .kept j (r .kept j (q .kept j (p .new j l e))))
+        (λ (e : 64 * low + 64 ≤ j).
+        ⊎-elim
+        (λ (f : j < 64 * high).
+        ⊎-elim
+        (λ (g : j / 64 < 2). s .kept j (r .kept j (q .new j e f (omega arith))))
+        (λ (g : 2 ≤ j / 64). s .kept j (r .new j e f (omega arith)))
+        (below-or (j / 64) 2))
+        (λ (f : 64 * high ≤ j). s .new j f h)
+        (below-or j (64 * high)))
+        (below-or j (64 * low + 64))
 
 -- the bytes that a letter holds
 module _ (t : List ℕ) (k c : ℕ) where
@@ -178,24 +207,50 @@ module _
         letters-more ws refl (λ j m. m)
         (λ c z h. absurd (⊎-elim (λ (y : kindAt t k ≡ 2). n2 (ek ∙ y)) (λ (y : kindAt t k ≡ 6). n6 (ek ∙ y)) (letter-kinds t k z)))
 
--- a byte of the line that is not marked
-pub byte-unmarked : (s ws : List ℕ) (i : ℕ) → i < length s → bitAnd (getD ws (getD s i 0 / 64) 0 / 2 ^ (getD s i 0 % 64)) 1 ≡ 0 → Unmarked s ws
-byte-unmarked s ws i l e =
-    record {
-      place = i;
-      within = l;
-      none = unmarked-bit ws (getD s i 0) (sym (and-mask (getD ws (getD s i 0 / 64) 0 / 2 ^ (getD s i 0 % 64)) 1) ∙ e);
-    }
+-- a byte of the line whose bit is not set is not marked
+abbrev pub fromMark : List ℕ → ℕ → ℕ
+fromMark ws c = getD ws (c / 64) 0 / 2 ^ (c % 64)
+
+even-unmarked : (s ws : List ℕ) (i : ℕ) → i < length s → fromMark ws (getD s i 0) % 2 ≡ 0 → Unmarked s ws
+even-unmarked s ws i l e = record { place = i; within = l; none = unmarked-bit ws (getD s i 0) e }
+
+pub byte-unmarked : (s ws : List ℕ) (i : ℕ) → i < length s → (x : ℕ) → x ≡ fromMark ws (getD s i 0) → bitAnd x 1 ≡ 0 → Unmarked s ws
+byte-unmarked s ws i l x q e =
+    even-unmarked s ws i l (rw q at (sym (and-mask x 1) ∙ e))
+
+-- of two numbers whose `&` is even one is
+one-even : (x y : ℕ) → bitAnd (bitAnd x y) 1 ≡ 0 → (x % 2 ≡ 0) ⊎ (y % 2 ≡ 0)
+one-even x y e = go (below-or 0 (x % 2)) (below-or 0 (y % 2))
+  where
+    both : bitAnd (x % 2) (y % 2) ≡ 0
+    both = sym (and-mod x y 1) ∙ sym (and-mask (bitAnd x y) 1) ∙ e
+
+    go : (0 < x % 2) ⊎ (x % 2 ≤ 0) → (0 < y % 2) ⊎ (y % 2 ≤ 0) → (x % 2 ≡ 0) ⊎ (y % 2 ≡ 0)
+    go (inr a) b = inl (omega arith)
+    go (inl a) (inr b) = inr (omega arith)
+    go (inl a) (inl b) =
+        let p : x % 2 ≡ 1 = omega arith in
+        let q : y % 2 ≡ 1 = omega arith in
+        absurd (let z : _≡_ {A = ℕ} 1 0 = rw (p, q) at both in omega arith)
+
+pub pair-unmarked :
+    (s ws : List ℕ) (i : ℕ) → i + 1 < length s → (x y : ℕ) → x ≡ fromMark ws (getD s i 0) → y ≡ fromMark ws (getD s (i + 1) 0)
+    → bitAnd (bitAnd x y) 1 ≡ 0 → Unmarked s ws
+pair-unmarked s ws i l x y p q e =
+    ⊎-elim
+    (λ (z : x % 2 ≡ 0). even-unmarked s ws i (omega arith) (rw p at z))
+    (λ (z : y % 2 ≡ 0). even-unmarked s ws (i + 1) l (rw q at z))
+    (one-even x y e)
 
 never-true : (a : Bool) → ¬ (a ≡ true) → a ≡ false
 never-true true n = absurd (n refl)
 never-true false n = refl
 
--- then no record spells the line
-pub unmarked-none : (t : List ℕ) → Passes t → (s ws : List ℕ) → LettersMarked t (count t) ws → Unmarked s ws
-    → (k : ℕ) → k < count t → spells (expOf t k) s ≡ false
-unmarked-none t p s ws m u k l =
+-- then the record does not spell the line
+pub unmarked-none : (t : List ℕ) → Passes t → (s ws : List ℕ) (k : ℕ) → k < count t → LettersMarked t (k + 1) ws → Unmarked s ws
+    → spells (expOf t k) s ≡ false
+unmarked-none t p s ws k l m u =
     never-true (spells (expOf t k) s)
     (λ (h : spells (expOf t k) s ≡ true).
     let f = byte-held t p k l s h (u .place) (u .within) in
-    true≢false (sym (m .right (f .0) (getD s (u .place) 0) (f .1) (f .2) (f .3)) ∙ u .none))
+    true≢false (sym (m .right (f .0) (getD s (u .place) 0) (omega (arith, f .1)) (f .2) (f .3)) ∙ u .none))

@@ -1,7 +1,7 @@
--- What the pass over a table keeps of a record in one byte: bit 1, the record spells the empty line; bit 2, a line of it may start with the one
--- byte that is asked for; bit 4, a line of it may end with the other.
+-- What the pass over a table keeps of a record in one byte: bit 128, the record spells the empty line; bit 1, a line of it may start with the
+-- one byte that is asked for; bit 2, a line of it may end with the other.
 -- Assumes nothing.
-use Prim.Native.Nat.{ℕ, _<_}
+use Prim.Native.Nat.{ℕ, _+_, _<_}
 use mathlib.Core.Path.{_≡_}
 use mathlib.Core.Bool.{Bool, true, false, _&&_}
 use mathlib.Core.List.{List, []}
@@ -13,13 +13,13 @@ use Rattle.edges.specs.Edges.{edgeOfSeq, edge}
 -- the byte of the three bits
 abbrev pub bits : (spells-empty starts ends : Bool) → ℕ
 bits false false false = 0
-bits true false false = 1
-bits false true false = 2
-bits true true false = 3
-bits false false true = 4
-bits true false true = 5
-bits false true true = 6
-bits true true true = 7
+bits true false false = 128
+bits false true false = 1
+bits true true false = 129
+bits false false true = 2
+bits true false true = 130
+bits false true true = 3
+bits true true true = 131
 
 -- the byte of record k
 abbrev pub bitsAt : List ℕ → (first last : ℕ) (k : ℕ) → ℕ
@@ -35,3 +35,7 @@ SeqBits a b r =
 pub record Found (t : List ℕ) (first last k : ℕ) (found : List ℕ) : Type 0 where
   pub long : length found ≡ 256
   pub right : (i : ℕ) → i < k → getD found i 0 ≡ bitsAt t first last i
+
+-- near is the byte of the record below k
+abbrev pub Near : List ℕ → (k near : ℕ) → Type 0
+Near found k near = (i : ℕ) → i + 1 ≡ k → near ≡ getD found i 0

@@ -1,6 +1,6 @@
 -- The bytes that letters hold, as marks: byte c is number c.
 -- Assumes nothing.
-use Prim.Native.Nat.{ℕ, _≤_, _<_}
+use Prim.Native.Nat.{ℕ, _/_, _≤_, _<_}
 use mathlib.Core.Path.{_≡_}
 use mathlib.Core.Bool.{true, false}
 use mathlib.Core.List.{List}
@@ -15,6 +15,12 @@ pub record MarkedFrom (low high : ℕ) (ws ws′ : List ℕ) : Type 0 where
   pub size : length ws′ ≡ length ws
   pub kept : (j : ℕ) → marked ws j ≡ true → marked ws′ j ≡ true
   pub new : (j : ℕ) → low ≤ j → j < high → marked ws′ j ≡ true
+
+-- the same for those of word w alone
+pub record MarkedIn (w low high : ℕ) (ws ws′ : List ℕ) : Type 0 where
+  pub size : length ws′ ≡ length ws
+  pub kept : (j : ℕ) → marked ws j ≡ true → marked ws′ j ≡ true
+  pub new : (j : ℕ) → low ≤ j → j < high → j / 64 ≡ w → marked ws′ j ≡ true
 
 -- each byte that a letter below k holds is marked
 pub record LettersMarked (t : List ℕ) (k : ℕ) (ws : List ℕ) : Type 0 where

@@ -3,7 +3,7 @@
 use Prim.Native.Nat.{ℕ, _+_, _≤_, _<_}
 use native.Mathlib.Omega.{arith}
 use mathlib.Core.Path.{_≡_, refl, ap, _∙_}
-use mathlib.Core.Logic.{_⊎_, ⊎-elim}
+use mathlib.Core.Logic.{⊎-elim}
 use mathlib.Core.Bool.{Bool, true, false, not, _||_}
 use mathlib.Core.List.{List}
 use lib.Dec.{eqb}
@@ -66,6 +66,12 @@ module _ (f : ℕ → Bool) (to : ℕ) (w : List ℕ) where
             (below-or j i);
         after = λ j h. getD-set-other w′ (to + i) j v 0 (λ q. omega arith) ∙ p .after j (omega arith);
       }
+
+  -- one byte alone
+  pub written-one : (n v : ℕ) → n ≡ 1 → to < length w → isSet v ≡ f 0 → Written f to n w (set w to v)
+  written-one n v one l e =
+      let z : to + 0 ≡ to = omega arith in
+      rw one (rw z at (written-more 0 v w written-none (omega arith) e))
 
 -- one byte more of a row that is joined into a later one
 pub joined-more : (to from i : ℕ) (w w′ : List ℕ) → Written (joined w to from) to i w w′ → to + i < length w → from + i < to

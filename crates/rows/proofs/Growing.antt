@@ -13,7 +13,8 @@ use lib.Seq.{getD-set-same, getD-set-other}
 use borrow.Author.Tests.{eq-eqb, ne-eqb, eqb-true, leb-true, le-leb, lt-leb}
 use Rattle.regex.proofs.Spells.{either, each, or-second}
 use Rattle.rows.specs.Layout.{headAt, rowAt, isSet, longestAt, lowestAt, markAt, inRow, has, tells}
-use Rattle.rows.specs.Rows.{Written, joined, Inside, Shaped, Growing, Grown, Explicit, Marked, markSet, inRun, behindNonEmpty, Earlier}
+use Rattle.rows.specs.Rows.{Written, joined, Inside, Own, Shaped, Growing, Grown, Explicit, Marked, markSet, inRun, behindNonEmpty, Earlier}
+use Rattle.rows.specs.Rows.{openHas, Open, WrittenOut}
 use Rattle.rows.proofs.Cuts.{same-truth, never-true, below-or}
 use Rattle.rows.proofs.Bytes.{set-byte, clear-byte}
 use Rattle.rows.proofs.Places.{size-grows, first-head, head-row, lower-row, row-inside, lower-block, head-inside, block-bound, offset-bound, row-formula}
@@ -293,24 +294,60 @@ module _ {m d k : ℕ} where
   pub grown-same : {f g : ℕ → Bool} {w w′ : List ℕ} → Grown m d k f w w′ → ((e : ℕ) → 1 ≤ e → e ≤ d → f e ≡ g e) → Grown m d k g w w′
   grown-same p h = record { size = p .size; kept = p .kept; shape = p .shape; facts = λ e x y. p .facts e x y ∙ h e x y }
 
+-- A row that is written out: h is its longest length.
+
+module _ (m : ℕ) (w : List ℕ) (k d h : ℕ) where
+  pub open-above : (e : ℕ) → h < e → openHas m w k d h e ≡ false
+  open-above e l = row-above d h 0 (markAt w m d k e) e l
+
+  pub open-whole : openHas m w k d h d ≡ leb d h
+  open-whole = row-whole d h 0 (markAt w m d k d) (clear-byte 0 refl)
+
+  pub open-mark : (e : ℕ) → e < d → e ≤ h → openHas m w k d h e ≡ isSet (markAt w m d k e)
+  open-mark e l x = row-mark d h 0 (markAt w m d k e) e (clear-byte 0 refl) l x
+
+  -- its marks tell what it has
+  open-explicit : Open m d k h w → Explicit m d k (openHas m w k d h) w w
+  open-explicit p =
+      record {
+        size = refl;
+        before = λ i l. refl;
+        after = λ i l. refl;
+        no-run = p .no-run;
+        marks = λ e x y.
+            ⊎-elim
+            (λ (q : h < e). p .clean e q y ∙ sym (open-above e q))
+            (λ (q : e ≤ h). sym (open-mark e y q))
+            (below-or h e);
+      }
+
+module _ {m d k h : ℕ} {w : List ℕ} (z : WrittenOut m d k h w) where
+  -- with its header it has just that
+  pub written-has : (e : ℕ) → openHas m w k d h e ≡ has m w k d e
+  unfolding has
+  written-has e = rw (z .long, z .no-run)
+
+  pub written-long : 2 ≤ h
+  written-long = rw (z .long) (no-run-long w m d k (z .no-run))
+
+  pub written-open : Growing m d k w → Open m d k h w
+  written-open g =
+      record {
+        inside = g .inside;
+        some-byte = g .some-byte;
+        no-run = no-run-byte w m d k (z .no-run);
+        small = rw (z .long) (g .shape .small);
+        clean = λ e x y. g .shape .clean (clear-byte (lowestAt w m d k) (z .no-run)) e (omega (arith, z .long)) y;
+      }
+
 -- What `without_run` leaves.
 
 module _ {m d k : ℕ} {w : List ℕ} (g : Growing m d k w) where
   -- a row that is no run is written out already
   pub without-none : lowestAt w m d k ≡ 0 → Explicit m d k (has m w k d) w w
   without-none z =
-      let s : isSet (lowestAt w m d k) ≡ false = clear-byte (lowestAt w m d k) z in
-      record {
-        size = refl;
-        before = λ i h. refl;
-        after = λ i h. refl;
-        no-run = no-run-byte w m d k z;
-        marks = λ e x y.
-            ⊎-elim
-            (λ (q : longestAt w m d k < e). g .shape .clean s e q y ∙ sym (has-above w m d k e q))
-            (λ (q : e ≤ longestAt w m d k). sym (has-mark w m d k e s y q))
-            (below-or (longestAt w m d k) e);
-      }
+      let o : WrittenOut m d k (longestAt w m d k) w = record { long = refl; no-run = z } in
+      explicit-same (open-explicit m w k d (longestAt w m d k) (written-open o g)) (λ e x y. written-has o e)
 
   pub without-some : (low h : ℕ) {w′ : List ℕ} → low ≡ lowestAt w m d k → h ≡ longestAt w m d k → ¬ (low ≡ 0)
       → Explicit m d k (inRun low h) w w′
@@ -321,86 +358,90 @@ module _ {m d k : ℕ} {w : List ℕ} (g : Growing m d k w) where
 
 -- A row that is written out and whose header is raised.
 
-pub raised : {m d k : ℕ} {f : ℕ → Bool} {w v : List ℕ} → Inside m d k w → Explicit m d k f w v → (at h : ℕ) → at ≡ headAt m d k
-    → 2 ≤ h
-    → h ≤ d
-    → ((e : ℕ) → h < e → e < d → f e ≡ false)
-    → f d ≡ leb d h
-    → Grown m d k f w (set v at h)
-unfolding longestAt markAt
-raised {m} {d} {k} {f} {w} {v} i p at h ea two small above whole =
-    let room : at < length v = omega (arith, head-there i, p .size) in
-    let front : at < rowAt m d k = omega (arith, head-before i) in
-    let long : longestAt (set v at h) m d k ≡ h = rw (← ea) (getD-set-same v at h 0 room) in
-    let other : (j : ℕ) → rowAt m d k ≤ j → getD (set v at h) j 0 ≡ getD v j 0 =
-    λ j l. getD-set-other v at j h 0 (λ q. omega arith) in
-    let low : lowestAt (set v at h) m d k ≡ 0 =
-    lowest-byte (set v at h) m d k (omega arith) ∙ other (rowAt m d k) (omega arith) ∙ p .no-run in
-    let none : isSet (lowestAt (set v at h) m d k) ≡ false = clear-byte (lowestAt (set v at h) m d k) low in
-    let mark : (e : ℕ) → 1 ≤ e → e < d → isSet (markAt (set v at h) m d k e) ≡ f e =
-    λ e x y. ap isSet (other (rowAt m d k + e) (omega arith)) ∙ p .marks e x y in
-    record {
-      size = simp length-set (p .size);
-      kept = λ j n.
-          getD-set-other v at j h 0 (λ q. n (inl (omega arith)))
-          ∙ ⊎-elim
-          (λ (l : j < rowAt m d k). p .before j l)
-          (λ (l : rowAt m d k ≤ j).
-          ⊎-elim
-          (λ (r : j < rowAt m d k + d). absurd (n (inr (l, r))))
-          (λ (r : rowAt m d k + d ≤ j). p .after j r)
-          (below-or j (rowAt m d k + d)))
-          (below-or j (rowAt m d k));
-      shape =
-          record {
-            small = omega arith;
-            ordered = λ l. omega arith;
-            clean = λ z e x y. mark e (omega arith) y ∙ above e (omega arith) y;
-          };
-      facts = λ e x y.
-          ⊎-elim
-          (λ (q : e < d).
-          ⊎-elim
-          (λ (r : h < e). has-above (set v at h) m d k e (omega arith) ∙ sym (above e r q))
-          (λ (r : e ≤ h). has-mark (set v at h) m d k e none q (omega arith) ∙ mark e x q)
-          (below-or h e))
-          (λ (q : d ≤ e).
-          let same : e ≡ d = omega arith in
-          rw same (has-whole (set v at h) m d k none ∙ rw long (sym whole)))
-          (below-or e d);
-    }
+-- what is not of the row stays where it is written out
+pub explicit-kept : {m d k : ℕ} {f : ℕ → Bool} {w v : List ℕ} → Explicit m d k f w v → (i : ℕ) → ¬ (Own m d k i) → getD v i 0 ≡ getD w i 0
+explicit-kept {m} {d} {k} p i n =
+    ⊎-elim
+    (λ (l : i < rowAt m d k). p .before i l)
+    (λ (l : rowAt m d k ≤ i).
+    ⊎-elim
+    (λ (r : i < rowAt m d k + d). absurd (n (inr (l, r))))
+    (λ (r : rowAt m d k + d ≤ i). p .after i r)
+    (below-or i (rowAt m d k + d)))
+    (below-or i (rowAt m d k))
 
--- What `add_marks` leaves.
-pub marks-added : {m d k : ℕ} {w v u : List ℕ} → Growing m d k w → Explicit m d k (has m w k d) w v → (low high h at top : ℕ)
-    → Marked m d k (λ e. markSet m v k d e || inRun low high e) v u
+-- the lengths of g, of which x is the longest, have been marked, and the header is raised to the larger of h and x
+raised : {m d k h : ℕ} (g : ℕ → Bool) {w v : List ℕ} → Open m d k h w → Explicit m d k (λ e. openHas m w k d h e || g e) w v
+    → (at x top : ℕ)
+    → at ≡ headAt m d k
+    → top ≡ h + (x - h)
+    → 2 ≤ top
+    → x ≤ d
+    → ((e : ℕ) → x < e → e ≤ d → g e ≡ false)
+    → (d ≤ x → g d ≡ true)
+    → (Grown m d k (λ e. openHas m w k d h e || g e) w (set v at top)) × (WrittenOut m d k top (set v at top))
+unfolding longestAt markAt
+raised {m} {d} {k} {h} g {w} {v} o p at x top ea et two small above last =
+    let room : at < length v = omega (arith, head-there (o .inside), p .size) in
+    let front : at < rowAt m d k = omega (arith, head-before (o .inside)) in
+    let within : top ≤ d = omega (arith, o .small) in
+    let long : longestAt (set v at top) m d k ≡ top = rw (← ea) (getD-set-same v at top 0 room) in
+    let other : (j : ℕ) → rowAt m d k ≤ j → getD (set v at top) j 0 ≡ getD v j 0 =
+    λ j l. getD-set-other v at j top 0 (λ q. omega arith) in
+    let low : lowestAt (set v at top) m d k ≡ 0 =
+    lowest-byte (set v at top) m d k (omega arith) ∙ other (rowAt m d k) (omega arith) ∙ p .no-run in
+    let none : isSet (lowestAt (set v at top) m d k) ≡ false = clear-byte (lowestAt (set v at top) m d k) low in
+    let mark : (e : ℕ) → 1 ≤ e → e < d → isSet (markAt (set v at top) m d k e) ≡ (openHas m w k d h e || g e) =
+    λ e a b. ap isSet (other (rowAt m d k + e) (omega arith)) ∙ p .marks e a b in
+    let beyond : (e : ℕ) → top < e → e ≤ d → (openHas m w k d h e || g e) ≡ false =
+    λ e a b. or-none (openHas m w k d h e) (above e (omega arith) b) ∙ open-above m w k d h e (omega arith) in
+    let whole : leb d top ≡ (openHas m w k d h d || g d) =
+    ⊎-elim
+    (λ (l : x < d).
+    same-truth (leb d top) (leb d h)
+    (λ t. let z : d ≤ top = leb-true d top t in le-leb d h (omega arith))
+    (λ t. let z : d ≤ h = leb-true d h t in le-leb d top (omega arith))
+    ∙ sym (or-none (openHas m w k d h d) (above d l (omega arith)) ∙ open-whole m w k d h))
+    (λ (l : d ≤ x). le-leb d top (omega arith) ∙ sym (or-second (openHas m w k d h d) (last l)))
+    (below-or x d) in (
+      record {
+        size = simp length-set (p .size);
+        kept = λ j n. getD-set-other v at j top 0 (λ q. n (inl (omega arith))) ∙ explicit-kept p j n;
+        shape =
+            record {
+              small = omega arith;
+              ordered = λ l. omega arith;
+              clean = λ z e a b. mark e (omega arith) b ∙ beyond e (omega arith) (omega arith);
+            };
+        facts = λ e a b.
+            ⊎-elim
+            (λ (q : e < d).
+            ⊎-elim
+            (λ (r : top < e). has-above (set v at top) m d k e (omega arith) ∙ sym (beyond e r b))
+            (λ (r : e ≤ top). has-mark (set v at top) m d k e none q (omega arith) ∙ mark e a q)
+            (below-or top e))
+            (λ (q : d ≤ e).
+            let same : e ≡ d = omega arith in
+            rw same (has-whole (set v at top) m d k none ∙ rw long whole))
+            (below-or e d);
+      },
+      record { long = sym long; no-run = low },
+    )
+
+-- What `raise_run` leaves.
+pub marks-added : {m d k h : ℕ} {w v : List ℕ} → Open m d k h w → (low high at top : ℕ)
+    → Marked m d k (λ e. markSet m w k d e || inRun low high e) w v
     → (1 ≤ low) × (low ≤ high) × (high ≤ d)
-    → (2 ≤ high) ⊎ (2 ≤ longestAt w m d k)
-    → h ≡ longestAt w m d k
+    → (2 ≤ high) ⊎ (2 ≤ h)
     → at ≡ headAt m d k
     → top ≡ h + (high - h)
-    → Grown m d k (λ e. has m w k d e || inRun low high e) w (set u at top)
-marks-added {m} {d} {k} {w} g p low high h at top q b two eh ea et =
-    let small : longestAt w m d k ≤ d = g .shape .small in
-    raised (g .inside) (explicit-marked (inRun low high) p q) at top ea
-    (⊎-elim (λ (l : 2 ≤ high). omega arith) (λ (l : 2 ≤ longestAt w m d k). omega arith) two)
+    → (Grown m d k (λ e. openHas m w k d h e || inRun low high e) w (set v at top)) × (WrittenOut m d k top (set v at top))
+marks-added {m} {d} {k} {h} {w} o low high at top q b two ea et =
+    raised (inRun low high) o (explicit-marked (inRun low high) (open-explicit m w k d h o) q) at high top ea et
+    (⊎-elim (λ (l : 2 ≤ high). omega arith) (λ (l : 2 ≤ h). omega arith) two)
     (omega arith)
-    (λ e x y. let z : has m w k d e ≡ false = has-above w m d k e (omega arith) in rw z (run-high low high e (omega arith)))
-    (same-truth (has m w k d d || inRun low high d) (leb d top)
-    (λ t.
-    le-leb d top
-    (⊎-elim
-    (λ (x : has m w k d d ≡ true).
-    let y : d ≤ longestAt w m d k = leb-true d (longestAt w m d k) (sym (has-end w m d k (g .shape) (g .some-byte)) ∙ x) in omega arith)
-    (λ (x : inRun low high d ≡ true). let y = run-true low high d x in omega arith)
-    (either (has m w k d d) (inRun low high d) t)))
-    (λ t.
-    let z : d ≤ top = leb-true d top t in
-    ⊎-elim
-    (λ (x : h < d). or-second (has m w k d d) (run-in low high d (omega arith) (omega arith)))
-    (λ (x : d ≤ h).
-    or-first (inRun low high d)
-    (has-end w m d k (g .shape) (g .some-byte) ∙ le-leb d (longestAt w m d k) (omega arith)))
-    (below-or h d)))
+    (λ e x y. run-high low high e x)
+    (λ x. run-in low high d (omega arith) x)
 
 -- What `set_run` leaves.
 pub run-set : {m d k : ℕ} {w : List ℕ} → Inside m d k w → (low high head at : ℕ) → (1 ≤ low) × (low ≤ high) × (high ≤ d)
@@ -479,7 +520,7 @@ module _ {m d k : ℕ} {w : List ℕ} (h low high : ℕ) (eh : h ≡ longestAt w
       (λ (q : inRun low high e ≡ true). let r = run-true low high e q in run-in bottom top e (omega arith) (omega arith))
       (either (inRun l h e) (inRun low high e) t))))
 
--- What `join_marks` needs and leaves.
+-- What `raise_row` needs and leaves.
 
 module _ {m d k s p : ℕ} {w : List ℕ} (i : Inside m d k w) (r : Earlier m d k s p w) where
   pub earlier-inside : Inside m p s w
@@ -511,79 +552,54 @@ behind-low m w s d p e l = let n : leb (d - p + 1) e ≡ false = lt-leb (d - p +
 behind-in : (m : ℕ) (w : List ℕ) (s d p e : ℕ) → d - p + 1 ≤ e → behindNonEmpty m w s d p e ≡ has m w s p (e - (d - p))
 behind-in m w s d p e l = let n : leb (d - p + 1) e ≡ true = le-leb (d - p + 1) e l in rw n
 
-module _ {m d k s p : ℕ} {w : List ℕ} (g : Growing m d k w) (r : Earlier m d k s p w) (one : 1 ≤ p)
+module _ {m d k s p h : ℕ} {w : List ℕ} (o : Open m d k h w) (r : Earlier m d k s p w) (one : 1 ≤ p)
     (none : isSet (lowestAt w m p s) ≡ false) where
-  pub explicit-joined : {v u : List ℕ} (high n to from : ℕ) → high ≡ longestAt w m p s → n ≡ high - (high - (p - 1))
-      → to ≡ rowAt m d k + (d - p) + 1
-      → from ≡ rowAt m p s + 1
-      → Explicit m d k (has m w k d) w v
-      → Written (joined v to from) to n v u
-      → Explicit m d k (λ e. has m w k d e || behindNonEmpty m w s d p e) w u
+  no-run-there : lowestAt w m p s ≡ 0
+  no-run-there = unset-byte (lowestAt w m p s) none
+
+  explicit-joined : {v : List ℕ} (to from : ℕ) → to ≡ rowAt m d k + (d - p) + 1 → from ≡ rowAt m p s + 1
+      → Written (joined w to from) to (p - 1) w v
+      → Explicit m d k (λ e. openHas m w k d h e || behindNonEmpty m w s d p e) w v
   unfolding markAt
-  explicit-joined {v} {u} high n to from eh en et ef q z =
+  explicit-joined {v} to from et ef z =
       let within : p ≤ d = r .within in
-      let front : rowAt m p s + p ≤ rowAt m d k = earlier-row (g .inside) r in
-      let short : n + 1 ≤ p = omega arith in
+      let q : Explicit m d k (openHas m w k d h) w w = open-explicit m w k d h o in
+      let there : Growing m p s w = record { inside = earlier-inside (o .inside) r; some-byte = one; shape = r .shape one } in
       record {
-        size = z .size ∙ q .size;
-        before = λ i h. z .before i (omega arith) ∙ q .before i h;
-        after = λ i h. z .after i (omega arith) ∙ q .after i h;
-        no-run = z .before (rowAt m d k) (omega arith) ∙ q .no-run;
+        size = z .size;
+        before = λ i l. z .before i (omega arith);
+        after = λ i l. z .after i (omega arith);
+        no-run = z .before (rowAt m d k) (omega arith) ∙ o .no-run;
         marks = λ e x y.
             ⊎-elim
             (λ (l : e < d - p + 1).
             ap isSet (z .before (rowAt m d k + e) (omega arith))
             ∙ q .marks e x y
-            ∙ sym (or-none (has m w k d e) (behind-low m w s d p e l)))
+            ∙ sym (or-none (openHas m w k d h e) (behind-low m w s d p e l)))
             (λ (l : d - p + 1 ≤ e).
-            ⊎-elim
-            (λ (a : e - (d - p + 1) < n).
             let to-place : to + (e - (d - p + 1)) ≡ rowAt m d k + e = omega arith in
             let from-place : from + (e - (d - p + 1)) ≡ rowAt m p s + (e - (d - p)) = omega arith in
-            let source : isSet (getD v (rowAt m p s + (e - (d - p))) 0) ≡ behindNonEmpty m w s d p e =
-            ap isSet (q .before (rowAt m p s + (e - (d - p))) (omega arith))
-            ∙ sym (has-mark w m p s (e - (d - p)) none (omega arith) (omega arith))
+            let source : isSet (getD w (rowAt m p s + (e - (d - p))) 0) ≡ behindNonEmpty m w s d p e =
+            without-none there no-run-there .marks (e - (d - p)) (omega arith) (omega arith)
             ∙ sym (behind-in m w s d p e l) in
-            (rw (to-place, from-place) at (z .inside (e - (d - p + 1)) a))
+            (rw (to-place, from-place) at (z .inside (e - (d - p + 1)) (omega arith)))
             ∙ rw (q .marks e x y, source))
-            (λ (a : n ≤ e - (d - p + 1)).
-            ap isSet (z .after (rowAt m d k + e) (omega arith))
-            ∙ q .marks e x y
-            ∙ sym (or-none (has m w k d e) (behind-in m w s d p e l ∙ has-above w m p s (e - (d - p)) (omega arith))))
-            (below-or (e - (d - p + 1)) n))
             (below-or e (d - p + 1));
       }
 
-  pub marks-joined : {u : List ℕ} (h high at top : ℕ) → h ≡ longestAt w m d k → high ≡ longestAt w m p s → at ≡ headAt m d k
+  pub marks-joined : {v : List ℕ} (high to from at top : ℕ) → high ≡ longestAt w m p s → to ≡ rowAt m d k + (d - p) + 1
+      → from ≡ rowAt m p s + 1
+      → Written (joined w to from) to (p - 1) w v
+      → at ≡ headAt m d k
       → top ≡ h + ((d - p + high) - h)
-      → Explicit m d k (λ e. has m w k d e || behindNonEmpty m w s d p e) w u
-      → Grown m d k (λ e. has m w k d e || behindNonEmpty m w s d p e) w (set u at top)
-  marks-joined h high at top eh es ea et q =
+      → (Grown m d k (λ e. openHas m w k d h e || behindNonEmpty m w s d p e) w (set v at top)) × (WrittenOut m d k top (set v at top))
+  marks-joined high to from at top eh et ef z ea etop =
       let within : p ≤ d = r .within in
-      let small : longestAt w m d k ≤ d = g .shape .small in
-      let small′ : longestAt w m p s ≤ p = r .shape one .small in
-      let long : 2 ≤ longestAt w m p s = no-run-long w m p s (unset-byte (lowestAt w m p s) none) in
-      let last : behindNonEmpty m w s d p d ≡ leb p (longestAt w m p s) =
+      let small : longestAt w m p s ≤ p = r .shape one .small in
+      let long : 2 ≤ longestAt w m p s = no-run-long w m p s no-run-there in
+      raised (behindNonEmpty m w s d p) o (explicit-joined to from et ef z) at (d - p + high) top ea etop (omega arith) (omega arith)
+      (λ e x y. behind-in m w s d p e (omega arith) ∙ has-above w m p s (e - (d - p)) (omega arith))
+      (λ x.
       let back : d - (d - p) ≡ p = omega arith in
-      behind-in m w s d p d (omega arith) ∙ rw back (has-whole w m p s none) in
-      raised (g .inside) q at top ea (omega arith) (omega arith)
-      (λ e x y.
-      let n : has m w k d e ≡ false = has-above w m d k e (omega arith) in
-      rw n (behind-in m w s d p e (omega arith) ∙ has-above w m p s (e - (d - p)) (omega arith)))
-      (same-truth (has m w k d d || behindNonEmpty m w s d p d) (leb d top)
-      (λ t.
-      le-leb d top
-      (⊎-elim
-      (λ (x : has m w k d d ≡ true).
-      let y : d ≤ longestAt w m d k = leb-true d (longestAt w m d k) (sym (has-end w m d k (g .shape) (g .some-byte)) ∙ x) in omega arith)
-      (λ (x : behindNonEmpty m w s d p d ≡ true).
-      let y : p ≤ longestAt w m p s = leb-true p (longestAt w m p s) (sym last ∙ x) in omega arith)
-      (either (has m w k d d) (behindNonEmpty m w s d p d) t)))
-      (λ t.
-      let z : d ≤ top = leb-true d top t in
-      ⊎-elim
-      (λ (x : h < d). or-second (has m w k d d) (last ∙ le-leb p (longestAt w m p s) (omega arith)))
-      (λ (x : d ≤ h).
-      or-first (behindNonEmpty m w s d p d)
-      (has-end w m d k (g .shape) (g .some-byte) ∙ le-leb d (longestAt w m d k) (omega arith)))
-      (below-or h d)))
+      behind-in m w s d p d (omega arith)
+      ∙ rw back (has-whole w m p s none ∙ le-leb p (longestAt w m p s) (omega arith)))

@@ -2,7 +2,6 @@
 -- Assumes nothing.
 use Prim.Native.Nat.{ℕ, _+_, _-_, _≤_, _<_}
 use native.Mathlib.Nat.{eq-or-lt-of-le}
-use native.Mathlib.Numerals.{add-one}
 use native.Mathlib.Omega.{arith}
 use mathlib.Core.Path.{_≡_, refl, sym, ap, _∙_}
 use mathlib.Core.Logic.{_⊎_, inl, inr, ⊎-elim}
@@ -15,13 +14,13 @@ use Rattle.regex.proofs.Spells.{either, each, or-second}
 use Rattle.rows.specs.Layout.{rowAt, isSet, longestAt, lowestAt, markAt, has, tells}
 use Rattle.rows.specs.Cuts.{some, cutAt}
 use Rattle.rows.specs.Rows.{rowSet, NextSet, Inside, Shaped, Growing, Grown, inRun, behind, behindNonEmpty, Earlier, second, cutsJoined}
-use Rattle.rows.specs.Rows.{NextLength, Cutting, Skipped, Covered}
+use Rattle.rows.specs.Rows.{NextLength, Cutting, Skipped, Covered, Tail}
 use Rattle.rows.proofs.Cuts.{same-truth, below-or, some-found, some-holds, some-skip}
-use Rattle.rows.proofs.Cuts.{cut-true, cut-low, cut-past}
+use Rattle.rows.proofs.Cuts.{cut-true, cut-holds, cut-low, cut-past}
 use Rattle.rows.proofs.Bytes.{set-byte, clear-byte}
 use Rattle.rows.proofs.Places.{size-grows, first-head}
-use Rattle.rows.proofs.Growing.{run-in, run-true, run-low, run-high, has-above, has-run, has-whole, has-mark, tells-has, grown-same}
-use Rattle.rows.proofs.Kept.{Same, has-kept, shape-kept, same-other, same-lower, tells-lower}
+use Rattle.rows.proofs.Growing.{lowest-one, run-in, run-true, run-low, run-high, has-above, has-run, has-whole, has-mark, tells-has, grown-same}
+use Rattle.rows.proofs.Kept.{Same, longest-kept, lowest-kept, has-kept, shape-kept, same-other, same-lower, tells-lower}
 
 -- a run behind c bytes
 shift-run : (c low high e : ℕ) → 1 ≤ low → (leb (c + 1) e && inRun low high (e - c)) ≡ inRun (c + low) (c + high) e
@@ -135,6 +134,26 @@ pub grown-twice : {m d k : ℕ} {f g : ℕ → Bool} {u v w : List ℕ} → Grow
 grown-twice p q =
     record { size = q .size ∙ p .size; kept = λ i n. q .kept i n ∙ p .kept i n; shape = q .shape; facts = q .facts }
 
+-- an earlier row whose bytes stay
+pub earlier-stays : (m d k s p : ℕ) (w w′ : List ℕ) → Same m p s w w′ → Earlier m d k s p w → Earlier m d k s p w′
+earlier-stays m d k s p w w′ same q =
+    record {
+      known = q .known;
+      within = q .within;
+      before = q .before;
+      shape = λ x. shape-kept m p s w w′ same x (q .shape x);
+    }
+
+pub rest-stays : (m d s p : ℕ) (w w′ : List ℕ) → Same m p s w w′ → p ≤ d → (e : ℕ) → e ≤ d
+    → behindNonEmpty m w′ s d p e ≡ behindNonEmpty m w s d p e
+rest-stays m d s p w w′ same l e h =
+    ⊎-elim
+    (λ (x : e < d - p + 1). rest-below m w′ s d p e (omega arith) ∙ sym (rest-below m w s d p e (omega arith)))
+    (λ (x : d - p + 1 ≤ e).
+    ap (λ (b : Bool). leb (d - p + 1) e && b)
+    (has-kept m p s w w′ same (e - (d - p)) (omega arith) (omega arith)))
+    (below-or e (d - p + 1))
+
 -- where record k's row grew, it may grow on, and the rows before it stay
 module _ (m d k : ℕ) (f : ℕ → Bool) (w w′ : List ℕ) (g : Grown m d k f w w′) where
   pub inside-kept : (j p : ℕ) → Inside m p j w → Inside m p j w′
@@ -155,24 +174,12 @@ module _ (m d k : ℕ) (f : ℕ → Bool) (w w′ : List ℕ) (g : Grown m d k f
       go (inr y) = lower (eq-or-lt-of-le (q .within)) y
 
   pub earlier-kept : k < m → (s p : ℕ) → Earlier m d k s p w → Earlier m d k s p w′
-  earlier-kept l s p q =
-      record {
-        known = q .known;
-        within = q .within;
-        before = q .before;
-        shape = λ x. shape-kept m p s w w′ (earlier-same l s p q) x (q .shape x);
-      }
+  earlier-kept l s p q = earlier-stays m d k s p w w′ (earlier-same l s p q) q
 
   -- what stands behind
   pub rest-kept : k < m → (s p : ℕ) → Earlier m d k s p w → (e : ℕ) → e ≤ d
       → behindNonEmpty m w′ s d p e ≡ behindNonEmpty m w s d p e
-  rest-kept l s p q e h =
-      ⊎-elim
-      (λ (x : e < d - p + 1). rest-below m w′ s d p e (omega arith) ∙ sym (rest-below m w s d p e (omega arith)))
-      (λ (x : d - p + 1 ≤ e).
-      ap (λ (b : Bool). leb (d - p + 1) e && b)
-      (has-kept m p s w w′ (earlier-same l s p q) (e - (d - p)) (omega arith) (omega (arith, q .within))))
-      (below-or e (d - p + 1))
+  rest-kept l s p q e h = rest-stays m d s p w w′ (earlier-same l s p q) (q .within) e h
 
 -- what the code adds, and what it is to add: h is the longest length of record s's row in block p, and low its lowest
 module _ (m d k s p : ℕ) (w w′ : List ℕ) where
@@ -344,25 +351,46 @@ abbrev pub Closed : (m d k s : ℕ) → Bool → (w w′ : List ℕ) → Type 0
 Closed m d k s star w w′ =
     star ≡ true → (c e : ℕ) → 1 ≤ c → c ≤ e → e ≤ d → has m w′ k d c ≡ true → second m w s d c (e - c) ≡ true → has m w′ k d e ≡ true
 
--- a row that is joined by cuts: w is the area before the first of them
-module _ (m d k f s : ℕ) (star : Bool) (w : List ℕ) (p : Cutting m d k f s star w) where
+-- one cut is joined
+pub one-cut : (m d k f s i : ℕ) (u v : List ℕ) → 1 ≤ i → i ≤ d → has m u f d i ≡ true
+    → Grown m d k (λ e. has m u k d e || behind m u s d (d - i) e) u v
+    → Grown m d k (cutsJoined m u d k f s i (i + 1)) u v
+one-cut m d k f s i u v l h t g = grown-same g (λ e a b. ap (λ (x : Bool). has m u k d e || x) (same e))
+  where
+    same : (e : ℕ) → behind m u s d (d - i) e ≡ some (cutAt (has m u f d) (second m u s d) i e) (i + 1)
+    same e =
+        let back : d - (d - i) ≡ i = omega arith in
+        rw back
+        (same-truth (leb i e && second m u s d i (e - i)) (some (cutAt (has m u f d) (second m u s d) i e) (i + 1))
+        (λ x.
+        let r = each (leb i e) _ x in
+        some-holds (cutAt (has m u f d) (second m u s d) i e) (i + 1) i (omega arith)
+        (cut-holds (has m u f d) (second m u s d) i e i (omega arith) (leb-true i e (r .0)) t (r .1)))
+        (λ x.
+        let c = some-found (cutAt (has m u f d) (second m u s d) i e) (i + 1) x in
+        let r = cut-true (has m u f d) (second m u s d) i e (c .0) (c .2) in
+        let z : c .0 ≡ i = omega (arith, c .1, r .0) in
+        rw (le-leb i e (omega (arith, r .1))) (rw z at (r .3))))
+
+-- a row that is joined by cuts from `from` on: w is the area before the first of them
+module _ (m d k f s : ℕ) (star : Bool) (w : List ℕ) (p : Cutting m d k f s star w) (from : ℕ) (one : 1 ≤ from) where
   -- cut c of the first e bytes
   abbrev cut : ℕ → ℕ → Bool
-  cut e c = cutAt (has m w f d) (second m w s d) 1 e c
+  cut e c = cutAt (has m w f d) (second m w s d) from e c
 
   -- the row holds the cuts below `end`
   abbrev pub Joining : ℕ → List ℕ → Type 0
-  Joining end w′ = Grown m d k (cutsJoined m w d k f s end) w w′
+  Joining end w′ = Grown m d k (cutsJoined m w d k f s from end) w w′
 
   known : k < m
   known = p .growing .inside .known
 
   pub joining-growing : (i : ℕ) (w′ : List ℕ) → Joining i w′ → Growing m d k w′
-  joining-growing i w′ q = growing-kept m d k (cutsJoined m w d k f s i) w w′ q (p .growing)
+  joining-growing i w′ q = growing-kept m d k (cutsJoined m w d k f s from i) w w′ q (p .growing)
 
   first-other : (i : ℕ) (w′ : List ℕ) → Joining i w′ → Same m d f w w′
   first-other i w′ q =
-      same-other m d k (cutsJoined m w d k f s i) w w′ known q f (omega (arith, p .first-lower, known))
+      same-other m d k (cutsJoined m w d k f s from i) w w′ known q f (omega (arith, p .first-lower, known))
       (λ (z : f ≡ k). omega (arith, p .first-lower))
 
   pub first-growing : (i : ℕ) (w′ : List ℕ) → Joining i w′ → Growing m d f w′
@@ -379,9 +407,18 @@ module _ (m d k f s : ℕ) (star : Bool) (w : List ℕ) (p : Cutting m d k f s s
         shape = shape-kept m d f w w′ (first-other i w′ q) (p .growing .some-byte) (p .first-shape);
       }
 
+  pub first-longest : (i : ℕ) (w′ : List ℕ) → Joining i w′ → longestAt w′ m d f ≡ longestAt w m d f
+  first-longest i w′ q = longest-kept m d f w w′ (first-other i w′ q)
+
+  pub first-lowest : (i : ℕ) (w′ : List ℕ) → Joining i w′ → lowestAt w′ m d f ≡ lowestAt w m d f
+  first-lowest i w′ q = lowest-kept m d f w w′ (first-other i w′ q) (p .growing .some-byte)
+
+  pub first-kept : (i : ℕ) (w′ : List ℕ) → Joining i w′ → (e : ℕ) → 1 ≤ e → e ≤ d → has m w′ f d e ≡ has m w f d e
+  first-kept i w′ q = has-kept m d f w w′ (first-other i w′ q)
+
   pub second-earlier : (i : ℕ) (w′ : List ℕ) → Joining i w′ → (c : ℕ) → 1 ≤ c → c ≤ d → Earlier m d k s (d - c) w′
   second-earlier i w′ q c l h =
-      earlier-kept m d k (cutsJoined m w d k f s i) w w′ q known s (d - c)
+      earlier-kept m d k (cutsJoined m w d k f s from i) w w′ q known s (d - c)
       (record {
         known = p .second-known;
         within = omega arith;
@@ -389,13 +426,17 @@ module _ (m d k f s : ℕ) (star : Bool) (w : List ℕ) (p : Cutting m d k f s s
         shape = λ x. p .second-shape (d - c) x (omega arith);
       })
 
+  -- no cut was joined
+  pub joining-back : (i : ℕ) (w′ : List ℕ) → Joining i w′ → from ≤ i → i ≤ from → Joining from w′
+  joining-back i w′ q l h = let z : i ≡ from = omega arith in rw z at q
+
   -- cuts that add nothing are left out
   pass : (i j : ℕ) (w′ : List ℕ) → Joining i w′ → i ≤ j
       → ((e c : ℕ) → 1 ≤ e → e ≤ d → i ≤ c → c < j → cut e c ≡ true → has m w′ k d e ≡ true)
       → Joining j w′
   pass i j w′ q l h = grown-same q (λ e a b. same-truth _ _ (up e) (down e a b))
     where
-      up : (e : ℕ) → cutsJoined m w d k f s i e ≡ true → cutsJoined m w d k f s j e ≡ true
+      up : (e : ℕ) → cutsJoined m w d k f s from i e ≡ true → cutsJoined m w d k f s from j e ≡ true
       up e t =
           ⊎-elim
           (λ (x : has m w k d e ≡ true). rw x)
@@ -404,7 +445,7 @@ module _ (m d k f s : ℕ) (star : Bool) (w : List ℕ) (p : Cutting m d k f s s
           or-second (has m w k d e) (some-holds (cut e) j (c .0) (omega (arith, c .1)) (c .2)))
           (either (has m w k d e) (some (cut e) i) t)
 
-      down : (e : ℕ) → 1 ≤ e → e ≤ d → cutsJoined m w d k f s j e ≡ true → cutsJoined m w d k f s i e ≡ true
+      down : (e : ℕ) → 1 ≤ e → e ≤ d → cutsJoined m w d k f s from j e ≡ true → cutsJoined m w d k f s from i e ≡ true
       down e a b t =
           ⊎-elim
           (λ (x : has m w k d e ≡ true). rw x)
@@ -417,46 +458,47 @@ module _ (m d k f s : ℕ) (star : Bool) (w : List ℕ) (p : Cutting m d k f s s
           (either (has m w k d e) (some (cut e) j) t)
 
   -- no cut is joined yet
-  pub joining-none : Joining 1 w
+  pub joining-none : Joining from w
   unfolding some
   joining-none =
       grown-same (grown-none (p .growing .shape))
       (λ e a b.
-      let z : some (cut e) 1 ≡ false = cut-low (has m w f d) (second m w s d) 1 e 0 (omega arith) in
+      let z : some (cut e) from ≡ false =
+      some-skip (cut e) 0 from (omega arith) (λ c x y. cut-low (has m w f d) (second m w s d) from e c y) in
       sym (ap (λ (x : Bool). has m w k d e || x) z ∙ or-false (has m w k d e)))
 
   -- on to the next length of the first row
-  pub joining-next : (i r : ℕ) (w′ : List ℕ) → Joining i w′ → 1 ≤ i → NextLength m w′ f d i r → Joining r w′
+  pub joining-next : (i r : ℕ) (w′ : List ℕ) → Joining i w′ → from ≤ i → NextLength m w′ f d i r → Joining r w′
   joining-next i r w′ q l n =
       pass i r w′ q (n .not-before)
       (λ e c a b x y t.
-      let u = cut-true (has m w f d) (second m w s d) 1 e c t in
+      let u = cut-true (has m w f d) (second m w s d) from e c t in
       absurd
       (true≢false
-      (sym (u .2) ∙ sym (has-kept m d f w w′ (first-other i w′ q) c (omega arith) (omega arith)) ∙ n .passed c x y (omega arith))))
+      (sym (u .2) ∙ sym (first-kept i w′ q c (omega (arith, one, u .0)) (omega (arith, u .1))) ∙ n .passed c x y (omega arith))))
 
-  pub first-has : (i r : ℕ) (w′ : List ℕ) → Joining i w′ → 1 ≤ i → NextLength m w′ f d i r → r ≤ d → has m w f d r ≡ true
+  pub first-has : (i r : ℕ) (w′ : List ℕ) → Joining i w′ → from ≤ i → NextLength m w′ f d i r → r ≤ d → has m w f d r ≡ true
   first-has i r w′ q l n h =
-      sym (has-kept m d f w w′ (first-other i w′ q) r (omega (arith, n .not-before)) h) ∙ n .found h
+      sym (first-kept i w′ q r (omega (arith, one, n .not-before)) h) ∙ n .found h
 
   -- past the cuts that are left out
   pub joining-skip : (i r : ℕ) (w′ : List ℕ) → Joining i w′ → Closed m d k s star w w′ → Skipped m w′ k d i star r → Joining r w′
   joining-skip i r w′ q z n =
       pass i r w′ q (n .not-before)
       (λ e c a b x y t.
-      let u = cut-true (has m w f d) (second m w s d) 1 e c t in
+      let u = cut-true (has m w f d) (second m w s d) from e c t in
       ⊎-elim
-      (λ (v : star ≡ true). z v c e (u .0) (u .1) b (n .held c x y (omega arith)) (u .3))
+      (λ (v : star ≡ true). z v c e (omega (arith, one, u .0)) (u .1) b (n .held c x y (omega arith)) (u .3))
       (λ (v : (e : ℕ) → 1 ≤ e → e ≤ d → has m w′ k d e ≡ true). v e a b)
       (n .free (omega arith)))
 
-  pub joining-covered : (i r : ℕ) (w′ : List ℕ) → Joining i w′ → 1 ≤ i → Covered m w′ k s d i r → Joining r w′
-  joining-covered i r w′ q one n =
+  pub joining-covered : (i r : ℕ) (w′ : List ℕ) → Joining i w′ → from ≤ i → Covered m w′ k s d i r → Joining r w′
+  joining-covered i r w′ q after n =
       pass i r w′ q (n .not-before)
       (λ e c a b x y t.
-      let u = cut-true (has m w f d) (second m w s d) 1 e c t in
+      let u = cut-true (has m w f d) (second m w s d) from e c t in
       n .held c e x y (u .1) b
-      (tells-lower m d k (cutsJoined m w d k f s i) w w′ known q (d - c) s (omega arith) (p .second-known) (e - c) (omega arith) ∙ u .3))
+      (tells-lower m d k (cutsJoined m w d k f s from i) w w′ known q (d - c) s (omega (arith, one, u .0, u .1)) (p .second-known) (e - c) (omega arith) ∙ u .3))
 
   -- all cuts are joined
   pub joining-end : (i : ℕ) (w′ : List ℕ) → Joining i w′ → d < i → Joining (d + 1) w′
@@ -464,52 +506,155 @@ module _ (m d k f s : ℕ) (star : Bool) (w : List ℕ) (p : Cutting m d k f s s
       grown-same q
       (λ e a b.
       ap (λ (x : Bool). has m w k d e || x)
-      (some-skip (cut e) (d + 1) i (omega arith) (λ c x y. cut-past (has m w f d) (second m w s d) 1 e c (omega arith))))
+      (some-skip (cut e) (d + 1) i (omega arith) (λ c x y. cut-past (has m w f d) (second m w s d) from e c (omega arith))))
 
-  -- one cut more
-  module _ (i : ℕ) (u v : List ℕ) (q : Joining i u) (l : 1 ≤ i) (h : i ≤ d)
-      (g : Grown m d k (λ e. has m u k d e || behind m u s d (d - i) e) u v) where
-    second-kept : (e : ℕ) → e ≤ d → behind m u s d (d - i) e ≡ (leb i e && second m w s d i (e - i))
-    second-kept e x =
-        let z : d - (d - i) ≡ i = omega arith in
-        rw z
-        (ap (λ (b : Bool). leb i e && b)
-        (tells-lower m d k (cutsJoined m w d k f s i) w u known q (d - i) s (omega arith) (p .second-known) (e - i) (omega arith)))
+  -- what the second sides tell stays
+  second-same : (i : ℕ) (u : List ℕ) → Joining i u → (c e : ℕ) → 1 ≤ c → c ≤ e → e ≤ d
+      → second m u s d c (e - c) ≡ second m w s d c (e - c)
+  second-same i u q c e x y z =
+      tells-lower m d k (cutsJoined m w d k f s from i) w u known q (d - c) s (omega arith) (p .second-known) (e - c) (omega arith)
 
-    now-has : (e : ℕ) → 1 ≤ e → e ≤ d → has m v k d e ≡ (has m u k d e || (leb i e && second m w s d i (e - i)))
-    now-has e a b = g .facts e a b ∙ ap (λ (x : Bool). has m u k d e || x) (second-kept e b)
+  -- the row as it is now may be joined by cuts
+  pub cutting-kept : (i : ℕ) (u : List ℕ) → Joining i u → Closed m d k s star w u → Cutting m d k f s star u
+  cutting-kept i u q z =
+      record {
+        growing = joining-growing i u q;
+        first-lower = p .first-lower;
+        first-shape = first-growing i u q .shape;
+        second-known = p .second-known;
+        second-shape = λ x a b.
+            shape-kept m x s w u (same-lower m d k (cutsJoined m w d k f s from i) w u known q x s b (p .second-known)) a (p .second-shape x a b);
+        chained = λ on a c e x y z n t b.
+            second-same i u q a e x (omega arith) n
+            ∙ p .chained on a c e x y z n (sym (second-same i u q a c x y (omega arith)) ∙ t)
+            (sym (second-same i u q c e (omega arith) z n) ∙ b);
+        closed = λ on c e x y n t b. z on c e x y n t (sym (second-same i u q c e x y n) ∙ b);
+      }
 
-    some-more : (e : ℕ) → some (cut e) (i + 1) ≡ (some (cut e) i || cut e i)
-    unfolding some
-    some-more e = rw add-one
+  -- more cuts, from i on up to `end`
+  module _ (i end : ℕ) (u v : List ℕ) (q : Joining i u) (l : from ≤ i) (h : i ≤ end)
+      (g : Grown m d k (cutsJoined m u d k f s i end) u v) where
+    abbrev cut′ : ℕ → ℕ → Bool
+    cut′ e c = cutAt (has m u f d) (second m u s d) i e c
 
-    cut-here : has m w f d i ≡ true → (e : ℕ) → cut e i ≡ (leb i e && second m w s d i (e - i))
-    unfolding cutAt
-    cut-here t e = rw (le-leb 1 i l, t)
+    cut-kept : (e c : ℕ) → e ≤ d → i ≤ c → cut′ e c ≡ cut e c
+    cut-kept e c b x =
+        same-truth (cut′ e c) (cut e c)
+        (λ t.
+        let y = cut-true (has m u f d) (second m u s d) i e c t in
+        cut-holds (has m w f d) (second m w s d) from e c (omega arith) (y .1)
+        (sym (first-kept i u q c (omega (arith, one)) (omega (arith, y .1))) ∙ y .2)
+        (sym (second-same i u q c e (omega (arith, one)) (y .1) b) ∙ y .3))
+        (λ t.
+        let y = cut-true (has m w f d) (second m w s d) from e c t in
+        cut-holds (has m u f d) (second m u s d) i e c x (y .1)
+        (first-kept i u q c (omega (arith, one)) (omega (arith, y .1)) ∙ y .2)
+        (second-same i u q c e (omega (arith, one)) (y .1) b ∙ y .3))
 
-    pub joining-more : has m w f d i ≡ true → Joining (i + 1) v
-    joining-more t =
-        grown-twice q
-        (grown-same g
-        (λ e a b.
-        sym (g .facts e a b)
-        ∙ now-has e a b
-        ∙ rw (q .facts e a b, some-more e, cut-here t e)
-        (or-assoc (has m w k d e) (some (cut e) i) (leb i e && second m w s d i (e - i)))))
+    pub joining-more : Joining end v
+    joining-more = grown-twice q (grown-same g (λ e a b. same-truth _ _ (up e a b) (down e a b)))
+      where
+        up : (e : ℕ) → 1 ≤ e → e ≤ d → cutsJoined m u d k f s i end e ≡ true → cutsJoined m w d k f s from end e ≡ true
+        up e a b t =
+            ⊎-elim
+            (λ (x : has m u k d e ≡ true).
+            ⊎-elim
+            (λ (y : has m w k d e ≡ true). rw y)
+            (λ (y : some (cut e) i ≡ true).
+            let c = some-found (cut e) i y in
+            or-second (has m w k d e) (some-holds (cut e) end (c .0) (omega (arith, c .1)) (c .2)))
+            (either (has m w k d e) (some (cut e) i) (sym (q .facts e a b) ∙ x)))
+            (λ (x : some (cut′ e) end ≡ true).
+            let c = some-found (cut′ e) end x in
+            let y = cut-true (has m u f d) (second m u s d) i e (c .0) (c .2) in
+            or-second (has m w k d e) (some-holds (cut e) end (c .0) (c .1) (sym (cut-kept e (c .0) b (y .0)) ∙ c .2)))
+            (either (has m u k d e) (some (cut′ e) end) t)
+
+        down : (e : ℕ) → 1 ≤ e → e ≤ d → cutsJoined m w d k f s from end e ≡ true → cutsJoined m u d k f s i end e ≡ true
+        down e a b t =
+            ⊎-elim
+            (λ (x : has m w k d e ≡ true). let y : has m u k d e ≡ true = q .facts e a b ∙ rw x in rw y)
+            (λ (x : some (cut e) end ≡ true).
+            let c = some-found (cut e) end x in
+            ⊎-elim
+            (λ (y : c .0 < i).
+            let z : has m u k d e ≡ true = q .facts e a b ∙ or-second (has m w k d e) (some-holds (cut e) i (c .0) y (c .2)) in rw z)
+            (λ (y : i ≤ c .0). or-second (has m u k d e) (some-holds (cut′ e) end (c .0) (c .1) (cut-kept e (c .0) b y ∙ c .2)))
+            (below-or (c .0) i))
+            (either (has m w k d e) (some (cut e) end) t)
 
     pub closed-more : Closed m d k s star w u → Closed m d k s star w v
     closed-more z on a e x y n t b =
         ⊎-elim
         (λ (o : has m u k d a ≡ true).
         let r : has m u k d e ≡ true = z on a e x y n o b in
-        now-has e (omega arith) n ∙ rw r)
-        (λ (o : (leb i a && second m w s d i (a - i)) ≡ true).
-        let r = each (leb i a) _ o in
-        let c : i ≤ a = leb-true i a (r .0) in
-        now-has e (omega arith) n
+        g .facts e (omega arith) n ∙ rw r)
+        (λ (o : some (cut′ a) end ≡ true).
+        let c = some-found (cut′ a) end o in
+        let r = cut-true (has m u f d) (second m u s d) i a (c .0) (c .2) in
+        let first : second m w s d (c .0) (a - c .0) ≡ true =
+        sym (second-same i u q (c .0) a (omega (arith, one, r .0)) (r .1) (omega arith)) ∙ r .3 in
+        let rest : second m u s d (c .0) (e - c .0) ≡ true =
+        second-same i u q (c .0) e (omega (arith, one, r .0)) (omega (arith, r .1)) n
+        ∙ p .chained on (c .0) a e (omega (arith, one, r .0)) (r .1) y n first b in
+        g .facts e (omega arith) n
         ∙ or-second (has m u k d e)
-        (rw (le-leb i e (omega arith)) (p .chained on i a e l c y n (r .1) b)))
-        (either (has m u k d a) (leb i a && second m w s d i (a - i)) (sym (now-has a x (omega arith)) ∙ t))
+        (some-holds (cut′ e) end (c .0) (c .1)
+        (cut-holds (has m u f d) (second m u s d) i e (c .0) (r .0) (omega (arith, r .1)) (r .2) rest)))
+        (either (has m u k d a) (some (cut′ a) end) (sym (g .facts a x (omega arith)) ∙ t))
+
+  -- one cut more
+  module _ (i : ℕ) (u v : List ℕ) (q : Joining i u) (l : from ≤ i) (h : i ≤ d) (t : has m w f d i ≡ true)
+      (g : Grown m d k (λ e. has m u k d e || behind m u s d (d - i) e) u v) where
+    cuts : Grown m d k (cutsJoined m u d k f s i (i + 1)) u v
+    cuts =
+        one-cut m d k f s i u v (omega (arith, one)) h
+        (first-kept i u q i (omega (arith, one)) h ∙ t) g
+
+    pub joining-one : Joining (i + 1) v
+    joining-one = joining-more i (i + 1) u v q l (omega arith) cuts
+
+    pub closed-one : Closed m d k s star w u → Closed m d k s star w v
+    closed-one = closed-more i (i + 1) u v q l (omega arith) cuts
+
+-- a first row with no length, and one with one byte alone: h is its longest length
+module _ (m d k f s : ℕ) (star : Bool) (w : List ℕ) (p : Cutting m d k f s star w) (h : ℕ) (long : h ≡ longestAt w m d f) where
+  abbrev none : Grown m d k (cutsJoined m w d k f s 1 1) w w
+  none = joining-none m d k f s star w p 1 (omega arith)
+
+  pub cuts-none : h ≡ 0 → Grown m d k (cutsJoined m w d k f s 1 (d + 1)) w w
+  cuts-none z =
+      joining-next m d k f s star w p 1 (omega arith) 1 (d + 1) w none (omega arith)
+      (length-above m d f w (first-growing m d k f s star w p 1 (omega arith) 1 w none) 1 h 0 long (omega arith) (omega arith))
+
+  pub one-earlier : Earlier m d k s (d - 1) w
+  one-earlier = second-earlier m d k f s star w p 1 (omega arith) 1 w none 1 (omega arith) (p .growing .some-byte)
+
+  pub cuts-one : h ≡ 1 → (v : List ℕ) → Grown m d k (λ e. has m w k d e || behind m w s d (d - 1) e) w v
+      → Grown m d k (cutsJoined m w d k f s 1 (d + 1)) w v
+  cuts-one z v g =
+      let l : 1 ≤ d = p .growing .some-byte in
+      let low : lowestAt w m d f ≡ 1 = lowest-one w m d f (omega arith) in
+      let here : has m w f d 1 ≡ true =
+      has-run w m d f 1 (rw low (set-byte 1 (λ (x : 1 ≡ 0). omega arith)))
+      ∙ run-in (lowestAt w m d f) (longestAt w m d f) 1 (omega arith) (omega arith) in
+      let more = joining-one m d k f s star w p 1 (omega arith) 1 w v none (omega arith) l here g in
+      joining-next m d k f s star w p 1 (omega arith) 2 (d + 1) v more (omega arith)
+      (length-above m d f v (first-growing m d k f s star w p 1 (omega arith) 2 v more) 2 h 0
+      (long ∙ sym (first-longest m d k f s star w p 1 (omega arith) 2 v more)) (omega arith) (omega arith))
+
+-- cuts of which none is left out may be joined wherever some may be
+pub cutting-free : {m d k f s : ℕ} {star : Bool} {w : List ℕ} → Cutting m d k f s star w → Cutting m d k f s false w
+cutting-free p =
+    record {
+      growing = p .growing;
+      first-lower = p .first-lower;
+      first-shape = p .first-shape;
+      second-known = p .second-known;
+      second-shape = p .second-shape;
+      chained = λ on. absurd (true≢false (sym on));
+      closed = λ on. absurd (true≢false (sym on));
+    }
 
 -- a mark is its byte of the row
 mark-byte : (m d k e : ℕ) (w : List ℕ) → isSet (markAt w m d k e) ≡ rowSet w (rowAt m d k) e
@@ -546,38 +691,15 @@ module _ (m d k : ℕ) (w : List ℕ) where
 pub grown-closed : {m d k : ℕ} {f : ℕ → Bool} {u v w : List ℕ} → Grown m d k f u v → Grown m d k (has m v k d) v w → Grown m d k f u w
 grown-closed p q = grown-same (grown-twice p q) (λ e a b. p .facts e a b)
 
--- what a run covers
-module _ (m d k s c : ℕ) (w : List ℕ) where
-  pub covered-none : c ≤ d + 1 → Covered m w k s d c c
-  covered-none l = record { not-before = omega arith; not-behind = l; held = λ i e x y. absurd (omega arith) }
+-- a row that has every length from t on still has them when it grew
+pub tail-kept : (m d k t : ℕ) (g : ℕ → Bool) (u v : List ℕ) → Grown m d k (λ e. has m u k d e || g e) u v → 1 ≤ t → Tail m u k d t
+    → Tail m v k d t
+tail-kept m d k t g u v q l p e a b = let x : has m u k d e ≡ true = p e a b in q .facts e (omega arith) b ∙ rw x
 
-  pub covered-more : Growing m d k w → (i : ℕ) → 1 ≤ i → Covered m w k s d c i → i ≤ longestAt w m d k → ¬ (lowestAt w m d k ≡ 0)
-      → lowestAt w m d k ≤ i
-      → i + longestAt w m (d - i) s ≤ longestAt w m d k
-      → Covered m w k s d c (i + 1)
-  covered-more g i one p l run low within =
-      record {
-        not-before = omega (arith, p .not-before);
-        not-behind = omega (arith, g .shape .small);
-        held = λ j e x y a b t.
-            ⊎-elim
-            (λ (z : j < i). p .held j e x z a b t)
-            (λ (z : i ≤ j). let same : j ≡ i = omega arith in here e (rw same at a) b (rw same at t))
-            (below-or j i);
-      }
-    where
-      inside-run : (e : ℕ) → i ≤ e → e ≤ longestAt w m d k → has m w k d e ≡ true
-      inside-run e a b =
-          has-run w m d k e (set-byte (lowestAt w m d k) run) ∙ run-in (lowestAt w m d k) (longestAt w m d k) e (omega arith) b
-
-      here : (e : ℕ) → i ≤ e → e ≤ d → second m w s d i (e - i) ≡ true → has m w k d e ≡ true
-      here e a b t = go (below-or (longestAt w m (d - i) s) (e - i))
-        where
-          go : (longestAt w m (d - i) s < e - i) ⊎ (e - i ≤ longestAt w m (d - i) s) → has m w k d e ≡ true
-          go (inl x) =
-              absurd (true≢false
-              (sym t ∙ tells-has w m s (d - i) (e - i) (omega arith) ∙ has-above w m (d - i) s (e - i) x))
-          go (inr x) = inside-run e a (omega arith)
+-- a row that has every length from t on has what the cuts from there on add
+pub tail-covered : (m : ℕ) (w : List ℕ) (k s d t c : ℕ) → Tail m w k d t → t ≤ c → c ≤ d + 1 → Covered m w k s d c (d + 1)
+tail-covered m w k s d t c p l h =
+    record { not-before = h; not-behind = omega arith; held = λ i e x y a b z. p e (omega arith) b }
 
 -- a row in a block of fewer bytes stands inside the area
 pub block-inside : (m d k s : ℕ) (w : List ℕ) → Inside m d k w → s < m → (p : ℕ) → p ≤ d → Inside m p s w

@@ -6,3 +6,7 @@ pub mod Bytes
 pub mod Kept
 pub mod Growing
 pub mod Joining
+pub mod Marking
+pub mod Tails
+pub mod Reaching
+pub mod Extending

@@ -5,15 +5,15 @@ use Prim.Native.Nat.{ℕ, zero, suc, _+_, _-_, _≤_, _<_}
 use native.Mathlib.Nat.{add-sub-of-le, sub-zero}
 use native.Mathlib.Omega.{arith}
 use mathlib.Core.Path.{_≡_, refl, sym, ap, _∙_}
-use mathlib.Core.Logic.{_⊎_, ⊎-elim}
+use mathlib.Core.Logic.{⊎-elim}
 use mathlib.Core.Bool.{Bool, true, _&&_, _||_}
-use mathlib.Core.List.{List, [], _∷_, _++_, append-assoc}
+use mathlib.Core.List.{List, [], _∷_, _++_, append-assoc, append-nil}
 use lib.ListN.{length, take, drop, length-append}
 use lib.Seq.{length-take-le, take-take, take-append-seam, take-add, drop-append-seam, drop-drop}
 use Rattle.regex.specs.Expressions.{Exp, seq, star}
 use Rattle.regex.specs.Language.{Parts, Iterated, no-more, one-more, L}
 use Rattle.regex.specs.Spells.{spells}
-use Rattle.regex.proofs.Languages.{iterated-head}
+use Rattle.regex.proofs.Languages.{parts-map, iterated-map, iterated-head}
 use Rattle.regex.proofs.Spells.{either, each, or-second, spells-sound, spells-complete}
 use Rattle.rows.specs.Cuts.{some, cutAt}
 use Rattle.rows.proofs.Cuts.{same-truth, some-found, some-holds, cut-true, cut-holds}
@@ -108,6 +108,36 @@ iterated-append : {A : List ℕ → Type 0} {s t : List ℕ} → Iterated A s �
 iterated-append {A} {s} {t} (no-more e) j = rw e j
 iterated-append {A} {s} {t} (one-more s1 s2 e a i) j =
     one-more s1 (s2 ++ t) (ap (λ (x : List ℕ). x ++ t) e ∙ append-assoc s1 s2 t) a (iterated-append i j)
+
+iterated-flat : {A : List ℕ → Type 0} {s : List ℕ} → Iterated (Iterated A) s → Iterated A s
+iterated-flat (no-more e) = no-more e
+iterated-flat (one-more s1 s2 e a i) = rw e (iterated-append a (iterated-flat i))
+
+-- a star of a star spells the lines of that star
+pub star-twice : (r : Exp) (s : List ℕ) → spells (star (star r)) s ≡ spells (star r) s
+star-twice r s =
+    same-truth (spells (star (star r)) s) (spells (star r) s)
+    (λ h. spells-complete (star r) s (iterated-flat (spells-sound (star (star r)) s h)))
+    (λ h.
+    spells-complete (star (star r)) s
+    (one-more s [] (sym (append-nil s)) (spells-sound (star r) s h) (no-more refl)))
+
+-- stars of expressions that spell the same lines, and Seqs whose first sides do
+pub star-same : (r r′ : Exp) → ((s : List ℕ) → spells r s ≡ spells r′ s) → (s : List ℕ) → spells (star r) s ≡ spells (star r′) s
+star-same r r′ h s =
+    same-truth (spells (star r) s) (spells (star r′) s)
+    (λ t. spells-complete (star r′) s (iterated-map (λ u x. spells-sound r′ u (sym (h u) ∙ spells-complete r u x)) (spells-sound (star r) s t)))
+    (λ t. spells-complete (star r) s (iterated-map (λ u x. spells-sound r u (h u ∙ spells-complete r′ u x)) (spells-sound (star r′) s t)))
+
+pub seq-same : (r r′ r2 : Exp) → ((s : List ℕ) → spells r s ≡ spells r′ s) → (s : List ℕ) → spells (seq r r2) s ≡ spells (seq r′ r2) s
+seq-same r r′ r2 h s =
+    same-truth (spells (seq r r2) s) (spells (seq r′ r2) s)
+    (λ t.
+    spells-complete (seq r′ r2) s
+    (parts-map (λ u x. spells-sound r′ u (sym (h u) ∙ spells-complete r u x)) (λ u x. x) (spells-sound (seq r r2) s t)))
+    (λ t.
+    spells-complete (seq r r2) s
+    (parts-map (λ u x. spells-sound r u (h u ∙ spells-complete r′ u x)) (λ u x. x) (spells-sound (seq r′ r2) s t)))
 
 -- two parts that a star spells, one behind the other, are one that it spells
 pub star-chained : (r : Exp) (u : List ℕ) (a c e : ℕ) → a ≤ c → c ≤ e → rests (star r) u a (c - a) ≡ true → rests (star r) u c (e - c) ≡ true

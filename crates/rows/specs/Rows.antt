@@ -7,7 +7,7 @@ use mathlib.Core.Bool.{Bool, true, false, _&&_, _||_}
 use mathlib.Core.List.{List}
 use lib.Dec.{leb}
 use lib.ListN.{length, getD}
-use Rattle.rows.specs.Layout.{areaSize, headAt, rowAt, isSet, longestAt, lowestAt, markAt, has, tells}
+use Rattle.rows.specs.Layout.{areaSize, headAt, rowAt, isSet, longestAt, lowestAt, markAt, inRow, has, tells}
 use Rattle.rows.specs.Cuts.{some, cutAt}
 
 -- Bytes of the area.
@@ -109,9 +109,9 @@ pub record Earlier (m d k s p : ℕ) (w : List ℕ) : Type 0 where
 abbrev pub second : ℕ → List ℕ → ℕ → ℕ → ℕ → ℕ → Bool
 second m w s d c e = tells m w s (d - c) e
 
--- record k's row joined with record s's rows for each cut behind c bytes, 1 ≤ c < end, that record f's row has
-abbrev pub cutsJoined : ℕ → List ℕ → (d k f s end : ℕ) → ℕ → Bool
-cutsJoined m w d k f s end e = has m w k d e || some (cutAt (has m w f d) (second m w s d) 1 e) end
+-- record k's row joined with record s's rows for each cut behind c bytes, from ≤ c < end, that record f's row has
+abbrev pub cutsJoined : ℕ → List ℕ → (d k f s from end : ℕ) → ℕ → Bool
+cutsJoined m w d k f s from end e = has m w k d e || some (cutAt (has m w f d) (second m w s d) from e) end
 
 -- r is the least length that is not below `from` and that the row has, or above d where there is none
 pub record NextLength (m : ℕ) (w : List ℕ) (k d from r : ℕ) : Type 0 where
@@ -148,3 +148,60 @@ pub record Covered (m : ℕ) (w : List ℕ) (k s d c r : ℕ) : Type 0 where
   pub not-before : c ≤ r
   pub not-behind : r ≤ d + 1
   pub held : (i e : ℕ) → c ≤ i → i < r → i ≤ e → e ≤ d → second m w s d i (e - i) ≡ true → has m w k d e ≡ true
+
+-- the row has every length from t on
+abbrev pub Tail : ℕ → List ℕ → (k d t : ℕ) → Type 0
+Tail m w k d t = (e : ℕ) → t ≤ e → e ≤ d → has m w k d e ≡ true
+
+-- Rows that are written out.
+
+-- what a row tells that is written out, where h is its longest length
+abbrev pub openHas : ℕ → List ℕ → (k d h : ℕ) → ℕ → Bool
+openHas m w k d h e = inRow d h 0 (markAt w m d k e) e
+
+-- a row that is written out and may grow: its byte 0 is 0, and it has no mark above h. Its header is still to be raised to h.
+pub record Open (m d k h : ℕ) (w : List ℕ) : Type 0 where
+  pub inside : Inside m d k w
+  pub some-byte : 1 ≤ d
+  pub no-run : getD w (rowAt m d k) 0 ≡ 0
+  pub small : h ≤ d
+  pub clean : (e : ℕ) → h < e → e < d → isSet (markAt w m d k e) ≡ false
+
+-- a row that is written out, its header too, and whose longest length is h
+pub record WrittenOut (m d k h : ℕ) (w : List ℕ) : Type 0 where
+  pub long : h ≡ longestAt w m d k
+  pub no-run : lowestAt w m d k ≡ 0
+
+-- Runs behind cuts.
+
+-- what record s spells of the last p bytes, the empty part included, are the lengths from low to h, unless low is above 255
+pub record LowBehind (m : ℕ) (w : List ℕ) (s p h low : ℕ) : Type 0 where
+  pub small : low ≤ 256
+  pub ordered : low ≤ 255 → low ≤ h
+  pub told : low ≤ 255 → (e : ℕ) → e ≤ p → tells m w s p e ≡ inRun low h e
+
+-- unless r is 0, the lengths from low to high and those from a to b are together those from r to the larger end
+pub record JoinedRun (low high a b r : ℕ) : Type 0 where
+  pub ordered : ¬ (r ≡ 0) → r ≤ high + (b - high)
+  pub same : ¬ (r ≡ 0) → (e : ℕ) → inRun r (high + (b - high)) e ≡ (inRun low high e || inRun a b e)
+
+-- the first e of the last d bytes may be cut behind `place` bytes, a number from c on that is neither above `end` nor reaches `next`: record s
+-- spells the rest
+pub record CutBehind (m : ℕ) (w : List ℕ) (s d c end next e : ℕ) : Type 0 where
+  pub place : ℕ
+  pub not-before : c ≤ place
+  pub not-behind : place ≤ end
+  pub done : place < next
+  pub within : place ≤ e
+  pub spelled : second m w s d place (e - place) ≡ true
+
+-- the lengths from low′ to high′ are those from low to high, some that cuts from c up to `end` add, and all that cuts from c up to `next` add
+pub record Reached (m : ℕ) (w : List ℕ) (d s c end low high low′ high′ next : ℕ) : Type 0 where
+  pub not-before : c ≤ next
+  pub not-behind : next ≤ d + 1
+  pub positive : 1 ≤ low′
+  pub small : high′ ≤ d
+  pub ordered : 1 ≤ high′ → low′ ≤ high′
+  pub kept : (e : ℕ) → inRun low high e ≡ true → inRun low′ high′ e ≡ true
+  pub found : (e : ℕ) → inRun low′ high′ e ≡ true → (inRun low high e ≡ true) ⊎ (CutBehind m w s d c end next e)
+  pub held : (i e : ℕ) → c ≤ i → i < next → i ≤ e → e ≤ d → second m w s d i (e - i) ≡ true → inRun low′ high′ e ≡ true

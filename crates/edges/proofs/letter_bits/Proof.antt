@@ -1,5 +1,6 @@
 -- `edges::letter_bits` meets its contract: the two tests. Assumes nothing.
-use Rattle.edges.proofs.Records.{bits-by}
+use native.Mathlib.Omega.{arith}
+use Rattle.edges.proofs.Records.{test-byte, bits-by}
 use borrow.Author.Needs.{needs}
 use Rattle.edges.proofs.letter_bits.Statement.{statement}
 use Rattle.edges.proofs.letter_bits.Tie as tie
@@ -10,29 +11,22 @@ letter-holds-requires c κs = search needs
 letter-holds-requires-2 : tie.Need-letter-holds-requires-2
 letter-holds-requires-2 c κs = search needs
 
+cast-result : tie.Need-cast-result
+cast-result c = search needs
+
+cast-result-2 : tie.Need-cast-result-2
+cast-result-2 c = search needs
+
+mul-result : tie.Need-mul-result
+mul-result c = omega (arith, test-byte (c .letter-holds2 .result))
+
+add-result : tie.Need-add-result
+add-result c = omega (arith, test-byte (c .before .letter-holds .result), test-byte (c .letter-holds2 .result))
+
 returns : tie.Need-returns
-returns c = bits-by _ _ _ _ (c .before .before .before .letter-holds .ensures) (c .before .before .if1 .taken) (c .before .letter-holds2 .ensures) (c .if2 .taken)
-
-returns-2 : tie.Need-returns-2
-returns-2 c = bits-by _ _ _ _ (c .before .before .before .letter-holds .ensures) (c .before .before .if1 .taken) (c .before .letter-holds2 .ensures) (c .if2 .left)
-
-letter-holds-requires-3 : tie.Need-letter-holds-requires-3
-letter-holds-requires-3 c κs = search needs
-
-returns-3 : tie.Need-returns-3
-returns-3 c = bits-by _ _ _ _ (c .before .before .before .letter-holds .ensures) (c .before .before .if1 .left) (c .before .letter-holds3 .ensures) (c .if3 .taken)
-
-returns-4 : tie.Need-returns-4
-returns-4 c = bits-by _ _ _ _ (c .before .before .before .letter-holds .ensures) (c .before .before .if1 .left) (c .before .letter-holds3 .ensures) (c .if3 .left)
+returns c = bits-by _ _ _ _ (c .before .letter-holds .ensures) (c .letter-holds2 .ensures)
 
 pub letter-bits-spec : {M : Type 1} → statement M
 letter-bits-spec =
     tie.close
-    (tie.spec
-    letter-holds-requires
-    letter-holds-requires-2
-    returns
-    returns-2
-    letter-holds-requires-3
-    returns-3
-    returns-4)
+    (tie.spec letter-holds-requires letter-holds-requires-2 cast-result cast-result-2 mul-result add-result returns)

@@ -1,58 +1,62 @@
--- `edges::mark_range` meets its contract. The loop's invariant: the numbers from `low` on below `at` are marked.
--- Assumes nothing.
-use Prim.Native.Nat.{_-_}
+-- `edges::mark_range` meets its contract: a range of one word, and the parts of one over several. Assumes nothing.
 use native.Mathlib.Omega.{arith}
-use mathlib.Core.Path.{_∙_}
-use Rattle.edges.specs.Held.{MarkedFrom}
-use Rattle.edges.proofs.Marks.{from-none, from-more, from-end}
+use mathlib.Core.Path.{refl}
+use Rattle.edges.proofs.Marks.{range-parts}
+use borrow.Author.Needs.{needs}
 use Rattle.edges.proofs.mark_range.Statement.{statement}
 use Rattle.edges.proofs.mark_range.Tie as tie
 
-abbrev Inv-loop : tie.InvT-loop
-Inv-loop words₀ low high at₀ words at = MarkedFrom low at words₀ words
+add-mark-in-word : tie.Need-add-mark-in-word
+add-mark-in-word c = search needs
 
-abbrev μ-loop : tie.MeasureT-loop
-μ-loop words₀ low high at₀ words at = high - at
+mark-in-word-requires : tie.Need-mark-in-word-requires
+mark-in-word-requires c κs = (c .before .before .pre .0, (omega arith, (omega arith, omega arith)))
 
-loop-holds : tie.Need-loop-holds Inv-loop μ-loop
-loop-holds c = from-none _ _
+returns : tie.Need-returns
+returns c = search needs
 
-add-end : tie.Need-add-end Inv-loop μ-loop
-add-end c = omega arith
+mul-mark-in-word : tie.Need-mul-mark-in-word
+mul-mark-in-word c = search needs
 
-mul-end : tie.Need-mul-end Inv-loop μ-loop
-mul-end c = omega arith
+add-mark-in-word-2 : tie.Need-add-mark-in-word-2
+add-mark-in-word-2 c = search needs
 
-mark-in-word-requires : tie.Need-mark-in-word-requires Inv-loop μ-loop
-mark-in-word-requires c κs = (c .before .before .before .loop .inv .size ∙ c .before .before .before .before .pre .0, (omega arith, (omega arith, omega arith)))
+mark-in-word-requires-2 : tie.Need-mark-in-word-requires-2
+mark-in-word-requires-2 c κs = search needs
 
-returns : tie.Need-returns Inv-loop μ-loop
-returns c = from-more _ _ _ _ _ _ (c .before .before .before .before .loop .inv) (c .mark-in-word .ensures)
+mark-between-requires : tie.Need-mark-between-requires
+mark-between-requires c κs = search needs
 
-mark-in-word-requires-2 : tie.Need-mark-in-word-requires-2 Inv-loop μ-loop
-mark-in-word-requires-2 c κs = (c .before .before .before .loop .inv .size ∙ c .before .before .before .before .pre .0, (omega arith, (omega arith, omega arith)))
+mark-between-requires-2 : tie.Need-mark-between-requires-2
+mark-between-requires-2 c κs = search needs
 
-loop-less : tie.Need-loop-less Inv-loop μ-loop
-loop-less c = omega arith
+mul-mark-in-word-2 : tie.Need-mul-mark-in-word-2
+mul-mark-in-word-2 c = search needs
 
-loop-again : tie.Need-loop-again Inv-loop μ-loop
-loop-again c = from-more _ _ _ _ _ _ (c .before .before .before .before .loop .inv) (c .mark-in-word2 .ensures)
+add-mark-in-word-3 : tie.Need-add-mark-in-word-3
+add-mark-in-word-3 c = search needs
 
-returns-2 : tie.Need-returns-2 Inv-loop μ-loop
-returns-2 c = from-end _ _ _ _ _ (c .before .loop .inv) (omega arith)
+mark-in-word-requires-3 : tie.Need-mark-in-word-requires-3
+mark-in-word-requires-3 c κs = search needs
+
+returns-2 : tie.Need-returns-2
+returns-2 c =
+    let s = c .before .before .before .before .before .before .before .before .before in
+    range-parts (s .args .a) (s .args .b) _ _ _ _ _ _ _ refl refl (omega arith) (c .before .before .before .before .before .before .mark-in-word2 .ensures) (c .before .before .before .before .mark-between .ensures) (c .before .before .mark-between2 .ensures) (c .mark-in-word3 .ensures)
 
 pub mark-range-spec : {M : Type 1} → statement M
 mark-range-spec =
     tie.close
     (tie.spec
-    Inv-loop
-    μ-loop
-    loop-holds
-    add-end
-    mul-end
+    add-mark-in-word
     mark-in-word-requires
     returns
+    mul-mark-in-word
+    add-mark-in-word-2
     mark-in-word-requires-2
-    loop-less
-    loop-again
+    mark-between-requires
+    mark-between-requires-2
+    mul-mark-in-word-2
+    add-mark-in-word-3
+    mark-in-word-requires-3
     returns-2)

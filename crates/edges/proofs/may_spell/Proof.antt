@@ -5,6 +5,7 @@ use mathlib.Core.Bool.{true≢false}
 use Rattle.table.specs.Expression.{expOf}
 use Rattle.edges.proofs.Edges.{first-missing, last-missing}
 use Rattle.edges.proofs.Records.{start-missing, end-missing}
+use Rattle.edges.proofs.Marks.{unmarked-none}
 use borrow.Author.Needs.{needs}
 use Rattle.edges.proofs.may_spell.Statement.{statement}
 use Rattle.edges.proofs.may_spell.Tie as tie
@@ -26,21 +27,23 @@ find-bits-requires c κs = search needs
 
 returns-2 : tie.Need-returns-2
 returns-2 c =
-    let s = c .before .before .before .before .before .before .before in
-    λ z. first-missing (expOf (s .args .table .now) (s .args .k)) (s .args .line .now) (omega (arith, c .before .before .before .before .if1 .left))
-    (start-missing (s .args .table .now) _ _ (s .args .k) _ (c .before .find-bits .ensures) (c .if2 .taken))
+    let s = c .before .before .before .before .before .before .before .before in
+    λ z. first-missing (expOf (s .args .table .now) (s .args .k)) (s .args .line .now) (omega (arith, c .before .before .before .before .before .if1 .left))
+    (start-missing (s .args .table .now) _ _ (s .args .k) _ (c .before .find-bits .ensures .0) (c .if2 .taken))
 
 returns-3 : tie.Need-returns-3
 returns-3 c =
-    let s = c .before .before .before .before .before .before .before .before in
-    λ z. last-missing (expOf (s .args .table .now) (s .args .k)) (s .args .line .now) (omega (arith, c .before .before .before .before .before .if1 .left))
-    (end-missing (s .args .table .now) _ _ (s .args .k) _ (c .before .before .find-bits .ensures) (c .if3 .taken))
+    let s = c .before .before .before .before .before .before .before .before .before in
+    λ z. last-missing (expOf (s .args .table .now) (s .args .k)) (s .args .line .now) (omega (arith, c .before .before .before .before .before .before .if1 .left))
+    (end-missing (s .args .table .now) _ _ (s .args .k) _ (c .before .before .find-bits .ensures .0) (c .if3 .taken))
 
-all-held-requires : tie.Need-all-held-requires
-all-held-requires c κs = search needs
+all-marked-requires : tie.Need-all-marked-requires
+all-marked-requires c κs = c .before .before .before .find-bits .ensures .1 .size
 
 returns-4 : tie.Need-returns-4
-returns-4 c = λ z. c .all-held .ensures z (c .before .before .before .before .before .before .before .before .before .args .k) (c .before .before .before .before .before .before .before .before .before .pre .1)
+returns-4 c =
+    let s = c .before .before .before .before .before .before .before .before .before .before .before in
+    λ z. unmarked-none (s .args .table .now) (s .pre .0) (s .args .line .now) _ (s .args .k) (s .pre .1) (c .before .before .before .before .find-bits .ensures .1) (c .all-marked .ensures z)
 
 pub may-spell-spec : {M : Type 1} → statement M
 may-spell-spec =
@@ -53,5 +56,5 @@ may-spell-spec =
     find-bits-requires
     returns-2
     returns-3
-    all-held-requires
+    all-marked-requires
     returns-4)
