@@ -88,14 +88,20 @@ ask() {
     done
 }
 
-# both PROGRAM N TIME TIME: our time, the lower of two, and how far they are apart in percent. While that is over 10, one more is taken, up to
-# four, and the two lowest count.
+# first PROGRAM N [CALL]: our first timing, which is kept. All are taken before the tables are, so that a slow spell of the machine does not cover
+# both timings of a load.
+declare -A early
+first() { early[$*]=$($OUT/"$1" "$2" "$MS" "${@:3}") || fail "$*"; }
+
+# both PROGRAM N [CALL]: our time, the lower of the first timing and one more, and how far they are apart in percent. While that is over 10,
+# another is taken, up to four, and the two lowest count.
 both() {
     local low high more try
-    read -r low high < <(printf '%s\n' "${3%%$'\n'*}" "${4%%$'\n'*}" | sort -g | xargs)
+    more=$($OUT/"$1" "$2" "$MS" "${@:3}") || fail "$*"
+    read -r low high < <(printf '%s\n' "${early[$*]%%$'\n'*}" "${more%%$'\n'*}" | sort -g | xargs)
     for try in 1 2 3 4; do
         awk -v x="$low" -v y="$high" 'BEGIN { exit !(y > 1.1 * x) }' || break
-        more=$($OUT/"$1" "$2" "$MS") || fail "$1 $2"
+        more=$($OUT/"$1" "$2" "$MS" "${@:3}") || fail "$*"
         read -r low high < <(printf '%s\n' "$low" "$high" "${more%%$'\n'*}" | sort -g | head -n 2 | xargs)
     done
     awk -v x="$low" -v y="$high" 'BEGIN { print x, 100 * (y / x - 1) }'
@@ -149,12 +155,10 @@ percent() { printf '%.1f %%' "$1"; }
 
 # timed N: our time of load n and the spread; cells: the peers' times with their ratios to ours, marked where the spans differ.
 timed() {
-    local one two spans i time mark
-    one=$($OUT/ours "$1" "$MS") || fail "load $1"
+    local spans i time mark
     ask "" "$1" "${@:2}"
-    two=$($OUT/ours "$1" "$MS") || fail "load $1"
-    spans=${one#*$'\n'}
-    read -r ours spread < <(both ours "$1" "$one" "$two")
+    spans=${early[ours $1]#*$'\n'}
+    read -r ours spread < <(both ours "$1") || exit 1
     for i in "${!cells[@]}"; do
         [ "${cells[i]}" = cut ] || [ "${cells[i]}" = failed ] && continue
         time=${cells[i]%%$'\n'*}
@@ -191,6 +195,17 @@ peer_lists() {
     printf -- '- %s\n' "${missing[@]}"
 }
 
+calls=(Check Read Spell Compare Tokens)
+worst_tables=$($OUT/worst) || fail "the worst tables"
+for part in loads length records; do
+    for n in $($OUT/list $part | cut -d' ' -f1); do first ours "$n"; done
+done
+for n in 0 1 2; do
+    for call in "${calls[@]}"; do first ours $n "$call"; done
+done
+for n in $(cut -d' ' -f1 <<<"$worst_tables"); do first worst "$n"; done
+for n in $($OUT/compile | cut -d' ' -f1); do first compile "$n"; done
+
 if [ "$MARKDOWN" ]; then
     cat <<END
 # Benchmark
@@ -207,8 +222,8 @@ pictures. glibc is always there; the Debian packages libtre-dev, libre2-dev, and
   table each time.
 - The ratio is the peer's time through ours: above 1 we are faster, below 1 the peer is.
 - ≠: the peer's spans differ from our tokens. cut: no answer within $CUT s. failed: the engine gave up, for instance out of memory.
-- spread: our load is timed before and after the peers; the difference of the two is the machine's noise, and the lower one counts. Where it is
-  over 10 %, the load is timed again, up to four times, and the two lowest timings count.
+- spread: our load is timed before all else and again after the peers; the difference of the two is the machine's noise, and the lower one
+  counts. Where it is over 10 %, the load is timed again, up to four times, and the two lowest timings count.
 
 ## This run
 
@@ -246,7 +261,6 @@ for n in 0 1 2; do $OUT/list $n | head -n 2; done
 section "Each call by itself" <<'END'
 Microseconds of one call on the ordinary lines. Compare is asked for the reading with itself, and answers 0.
 END
-calls=(Check Read Spell Compare Tokens)
 head=(line bytes records "${calls[@]/%/ µs}")
 wide=(28 5 7 10 10 10 10 10)
 heading
@@ -254,7 +268,7 @@ checks=()
 for n in 0 1 2; do
     cells=()
     for call in "${calls[@]}"; do
-        time=$($OUT/ours $n "$MS" "$call") || fail "$call on load $n"
+        read -r time spread < <(both ours $n "$call") || exit 1
         [ "$call" = Check ] && checks[n]=$time
         cells+=("$(us "$time")")
     done
@@ -283,10 +297,9 @@ head=(table records bytes "ours µs" spread)
 wide=(28 7 5 8 7)
 heading
 while read -r n records bytes name; do
-    one=$($OUT/worst "$n" "$MS") && two=$($OUT/worst "$n" "$MS") || fail "worst table $n"
-    read -r ours spread < <(both worst "$n" "$one" "$two")
+    read -r ours spread < <(both worst "$n") || exit 1
     row "$(cell "$name")" "$records" "$bytes" "$(us "$ours")" "$(percent "$spread")"
-done < <($OUT/worst)
+done <<<"$worst_tables"
 
 section "Time against the line's length" <<'END'
 The rule of the short ordinary line, 50 records, on lines whose remark grows.
@@ -308,17 +321,15 @@ wide=(28 5 8 8 7 9)
 heading "${compilers[@]}"
 growth=
 while read -r n bytes name; do
-    one=$($OUT/compile "$n" "$MS") || fail "rule $n"
     ask compile- "$n" "${compilers[@]}"
-    two=$($OUT/compile "$n" "$MS") || fail "rule $n"
-    read -r ours spread < <(both compile "$n" "$one" "$two")
+    read -r ours spread < <(both compile "$n") || exit 1
     each=$(awk -v x="$ours" -v n="$bytes" 'BEGIN { print 1000 * x / n }')
     for i in "${!cells[@]}"; do
         [ "${cells[i]}" = cut ] || [ "${cells[i]}" = failed ] || cells[i]="$(us "${cells[i]}") ($(ratio "${cells[i]}" "$ours"))"
     done
-    [ "$bytes" -eq 64 ] && first=$each
-    [ "$bytes" -eq 4096 ] && growth+="${growth:+, }$(ratio "$each" "$first") ($name)"
-    row "$(cell "$name")" "$bytes" "${one#*$'\n'}" "$(us "$ours")" "$(percent "$spread")" "$(us "$each")" "${cells[@]}"
+    [ "$bytes" -eq 64 ] && short=$each
+    [ "$bytes" -eq 4096 ] && growth+="${growth:+, }$(ratio "$each" "$short") ($name)"
+    row "$(cell "$name")" "$bytes" "${early[compile $n]#*$'\n'}" "$(us "$ours")" "$(percent "$spread")" "$(us "$each")" "${cells[@]}"
 done < <($OUT/compile)
 echo
 echo "The time a byte at 4,096 bytes through that at 64: $growth."
