@@ -1,7 +1,7 @@
 -- Laws of marks: bits of words, what a mark adds, which numbers a word of no bits or its trailing zeros pass, and copied words.
 -- Assumes nothing.
 use Prim.Native.Nat.{ℕ, zero, suc, _+_, _-_, _*_, _/_, _%_, _^_, _≤_, _<_, max}
-use native.Mathlib.Nat.{max-le, le-max-left, le-max-right, div-one, zero-div, zero-lt-suc, le-of-suc-le-suc}
+use native.Mathlib.Nat.{max-le, le-max-left, le-max-right, max-eq-left, max-eq-right, one-mul, div-eq-of-lt, div-one, zero-div, zero-lt-suc, le-of-suc-le-suc}
 use native.Mathlib.Numerals.{one-add}
 use native.Mathlib.Omega.{arith}
 use mathlib.Core.Path.{_≡_, refl, sym, ap, _∙_, subst}
@@ -13,7 +13,7 @@ use lib.Bits.{bitOr, or-step, or-shr}
 use lib.Count.{trailingZeros, under, trailing-le}
 use lib.Dec.{eqb, ltb, lit<}
 use lib.ListN.{length, getD, set, length-set}
-use lib.Pow.{shl-exact, shl-shr, shr-shr, shr-lt}
+use lib.Pow.{pow-lt, pow-add, shl-exact, shl-shr, shr-shr, shr-lt}
 use lib.Seq.{getD-set-same, getD-set-other}
 use borrow.Author.Tests.{eq-eqb, ne-eqb, eqb-true, eqb-false, ltb-true, ltb-false}
 use Rattle.marks.specs.Marks.{marked, MarkedToo, NextMarked, Copied}
@@ -26,6 +26,10 @@ below-or x y = go (ltb x y) refl
     go false h = inr (ltb-false x y h)
 
 -- a mark is a bit that is 1
+pub bit-is : (ws : List ℕ) (i : ℕ) → eqb (getD ws (i / 64) 0 / 2 ^ (i % 64) % 2) 1 ≡ marked ws i
+unfolding marked
+bit-is ws i = refl
+
 pub marked-bit : (ws : List ℕ) (i : ℕ) → getD ws (i / 64) 0 / 2 ^ (i % 64) % 2 ≡ 1 → marked ws i ≡ true
 unfolding marked
 marked-bit ws i e = eq-eqb _ 1 e
@@ -61,6 +65,45 @@ bit-or-left a b k e = omega (arith, bit-or a b k, le-max-left (a / 2 ^ k % 2) (b
 pub bit-or-right : (a b k : ℕ) → b / 2 ^ k % 2 ≡ 1 → bitOr a b / 2 ^ k % 2 ≡ 1
 bit-or-right a b k e = omega (arith, bit-or a b k, le-max-right (a / 2 ^ k % 2) (b / 2 ^ k % 2))
 
+-- a bit of `|` is one of either
+max-one : (x y : ℕ) → max x y ≡ 1 → (x ≡ 1) ⊎ (y ≡ 1)
+max-one x y e = go (ltb x y) refl
+  where
+    go : (b : Bool) → ltb x y ≡ b → (x ≡ 1) ⊎ (y ≡ 1)
+    go true h = inr (sym (max-eq-right (omega (arith, ltb-true x y h))) ∙ e)
+    go false h = inl (sym (max-eq-left (ltb-false x y h)) ∙ e)
+
+pub or-bit : (a b k : ℕ) → bitOr a b / 2 ^ k % 2 ≡ 1 → (a / 2 ^ k % 2 ≡ 1) ⊎ (b / 2 ^ k % 2 ≡ 1)
+or-bit a b k e = max-one (a / 2 ^ k % 2) (b / 2 ^ k % 2) (sym (bit-or a b k) ∙ e)
+
+-- 1 << k has no other bit
+one-bit-only : (k j : ℕ) → k < 64 → 1 * 2 ^ k % 2 ^ 64 / 2 ^ j % 2 ≡ 1 → j ≡ k
+one-bit-only k j h e = ⊎-elim (λ (l : j < k). absurd (lower l)) (λ (l : k ≤ j). ⊎-elim (λ (m : k < j). absurd (higher m)) (λ (m : j ≤ k). omega arith) (below-or k j)) (below-or j k)
+  where
+    exact : 1 * 2 ^ k % 2 ^ 64 ≡ 1 * 2 ^ k
+    exact = shl-exact 1 k 64 (lit< tt) (omega arith)
+
+    bit : 1 * 2 ^ k / 2 ^ j % 2 ≡ 1
+    bit = ap (λ (n : ℕ). n / 2 ^ j % 2) (sym exact) ∙ e
+
+    lower : j < k → ⊥
+    lower l =
+        let sum : k ≡ 1 + (k - j - 1) + j = omega arith in
+        let power : 2 ^ k ≡ 2 ^ (1 + (k - j - 1)) * 2 ^ j = ap (λ (n : ℕ). 2 ^ n) sum ∙ pow-add 2 (1 + (k - j - 1)) j in
+        let twice : 2 ^ (1 + (k - j - 1)) ≡ 2 ^ 1 * 2 ^ (k - j - 1) = pow-add 2 1 (k - j - 1) in
+        let half : 1 * 2 ^ k / 2 ^ j ≡ 2 ^ (1 + (k - j - 1)) = ap (λ (n : ℕ). n / 2 ^ j) (one-mul (2 ^ k) ∙ power) ∙ shl-shr (2 ^ (1 + (k - j - 1))) j in
+        let even : 2 ^ (1 + (k - j - 1)) % 2 ≡ 1 = ap (λ (n : ℕ). n % 2) (sym half) ∙ bit in
+        let x : ℕ = 2 ^ (k - j - 1) in
+        let double : 2 ^ (1 + (k - j - 1)) ≡ 2 * x = twice in
+        let odd : (2 * x) % 2 ≡ 1 = ap (λ (n : ℕ). n % 2) (sym double) ∙ even in
+        omega arith
+
+    higher : k < j → ⊥
+    higher l =
+        let none : 1 * 2 ^ k / 2 ^ j ≡ 0 = ap (λ (n : ℕ). n / 2 ^ j) (one-mul (2 ^ k)) ∙ div-eq-of-lt (pow-lt l) in
+        let zeros : _≡_ {A = ℕ} 0 1 = sym (ap (λ (n : ℕ). n % 2) none) ∙ bit in
+        omega arith
+
 -- bit k of 1 << k
 one-bit : (k : ℕ) → k < 64 → 1 * 2 ^ k % 2 ^ 64 / 2 ^ k % 2 ≡ 1
 one-bit k h = ap (λ (n : ℕ). n / 2 ^ k % 2) (shl-exact 1 k 64 (lit< tt) (omega arith)) ∙ ap (λ (n : ℕ). n % 2) (shl-shr 1 k)
@@ -75,6 +118,7 @@ marked-too ws i l =
       new =
           marked-bit (set ws (i / 64) v) i
           (rw here (bit-or-right (getD ws (i / 64) 0) (1 * 2 ^ (i % 64) % 2 ^ 64) (i % 64) (one-bit (i % 64) (omega arith))));
+      only = λ j m. was j (eqb (j / 64) (i / 64)) refl (bit-marked (set ws (i / 64) v) j m);
     }
   where
     v : ℕ
@@ -90,6 +134,19 @@ marked-too ws i l =
         let old : getD ws (i / 64) 0 / 2 ^ (j % 64) % 2 ≡ 1 = rw same at m in
         rw (same, here) (bit-or-left (getD ws (i / 64) 0) (1 * 2 ^ (i % 64) % 2 ^ 64) (j % 64) old)
     still j false e m = rw (getD-set-other ws (i / 64) (j / 64) v 0 (eqb-false (j / 64) (i / 64) e)) m
+
+    was : (j : ℕ) (b : Bool) → eqb (j / 64) (i / 64) ≡ b → getD (set ws (i / 64) v) (j / 64) 0 / 2 ^ (j % 64) % 2 ≡ 1
+        → (j ≡ i) ⊎ (marked ws j ≡ true)
+    was j true e m =
+        let same : j / 64 ≡ i / 64 = eqb-true (j / 64) (i / 64) e in
+        let both : v / 2 ^ (j % 64) % 2 ≡ 1 = rw (same, here) at m in
+        ⊎-elim
+        (λ (old : getD ws (i / 64) 0 / 2 ^ (j % 64) % 2 ≡ 1). inr (marked-bit ws j (rw same old)))
+        (λ (new : 1 * 2 ^ (i % 64) % 2 ^ 64 / 2 ^ (j % 64) % 2 ≡ 1).
+        let bits : j % 64 ≡ i % 64 = one-bit-only (i % 64) (j % 64) (omega arith) new in
+        inl (omega arith))
+        (or-bit (getD ws (i / 64) 0) (1 * 2 ^ (i % 64) % 2 ^ 64) (j % 64) both)
+    was j false e m = inr (marked-bit ws j (rw (getD-set-other ws (i / 64) (j / 64) v 0 (eqb-false (j / 64) (i / 64) e)) at m))
 
 -- the bits below the trailing zeros' end are 0
 below-under : (n d t i : ℕ) → n % 2 ≡ d → ((j : ℕ) → j < t → n / 2 / 2 ^ j % 2 ≡ 0) → i < under d t → n / 2 ^ i % 2 ≡ 0

@@ -2,6 +2,7 @@
 -- Assumes nothing.
 use Prim.Native.Nat.{ℕ, _+_, _*_, _/_, _%_, _^_, _≤_, _<_}
 use mathlib.Core.Path.{_≡_}
+use mathlib.Core.Logic.{_⊎_}
 use mathlib.Core.Bool.{Bool, true, false}
 use mathlib.Core.List.{List}
 use lib.Dec.{eqb}
@@ -10,11 +11,12 @@ use lib.ListN.{length, getD}
 unfoldable pub marked : List ℕ → ℕ → Bool
 marked ws i = eqb (getD ws (i / 64) 0 / 2 ^ (i % 64) % 2) 1
 
--- i is marked too, and what was marked still is
+-- i is marked too, what was marked still is, and nothing else
 pub record MarkedToo (i : ℕ) (ws ws′ : List ℕ) : Type 0 where
   pub size : length ws′ ≡ length ws
   pub kept : (j : ℕ) → marked ws j ≡ true → marked ws′ j ≡ true
   pub new : marked ws′ i ≡ true
+  pub only : (j : ℕ) → marked ws′ j ≡ true → (j ≡ i) ⊎ (marked ws j ≡ true)
 
 -- r is not below `from`, and no number from there up to r is marked
 pub record NextMarked (ws : List ℕ) (from end r : ℕ) : Type 0 where

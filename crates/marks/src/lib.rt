@@ -3,7 +3,15 @@
 ghost use Prim.Native.Nat.{_+_, _-_, _*_, _≤_, _<_};
 ghost use mathlib.Core.Path.{_≡_};
 ghost use lib.ListN.{length};
-ghost use Rattle.marks.specs.Marks.{MarkedToo, NextMarked, Copied};
+ghost use Rattle.marks.specs.Marks.{marked, MarkedToo, NextMarked, Copied};
+
+// Whether number i is marked.
+pub fn is_marked(words: &[u64], i: usize) -> bool
+    requires { ⌜ i < 64 * length (now words) ⌝ }
+    ensures { λ r. ⌜ r ≡ marked (now (words .entry)) i ⌝ }
+{
+    (words[i / 64] >> (i % 64)) % 2 == 1
+}
 
 // Marks number i.
 pub fn mark(words: &mut [u64], i: usize)
