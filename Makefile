@@ -44,11 +44,11 @@ $(PROGRAMS): target/bin/%: $(SOURCES)
 PREFIX = /usr/local
 ROOT = $(DESTDIR)$(PREFIX)
 MANUAL = $(ROOT)/share/man
-FUNCTIONS := $(shell grep -oE '\btrace_[a-z_]+' include/trace.h | sort -u)
+NAMES := $(shell grep -oE '\btrace_[a-z_]+' include/trace.h | sort -u)
 COMMANDS = $(notdir $(PROGRAMS))
 DOCUMENTS = FORMATS.md GUIDE.md
 INSTALL_FILES = $(COMMANDS:%=bin/%) include/trace.h lib/libtrace.a lib/libtrace.so lib/libtrace.so.$(MAJOR) lib/libtrace.so.$(VERSION) \
-    lib/pkgconfig/trace.pc $(DOCUMENTS:%=share/doc/trace/%) $(COMMANDS:%=share/man/man1/%.1) share/man/man3/libtrace.3 $(FUNCTIONS:%=share/man/man3/%.3)
+    lib/pkgconfig/trace.pc $(DOCUMENTS:%=share/doc/trace/%) $(COMMANDS:%=share/man/man1/%.1) share/man/man3/libtrace.3 $(NAMES:%=share/man/man3/%.3)
 FILLED = sed -e 's,@VERSION@,$(VERSION),g' -e 's,@PREFIX@,$(PREFIX),g'
 
 install: all
@@ -62,7 +62,7 @@ install: all
 	@$(FILLED) packaging/trace.pc.in >$(ROOT)/lib/pkgconfig/trace.pc
 	@for name in $(COMMANDS); do $(FILLED) man/$$name.1.in >$(MANUAL)/man1/$$name.1 || exit 1; done
 	@sed 's,\\,\\e,g' examples/first.c | $(FILLED) -e '/^@EXAMPLE@$$/{r /dev/stdin' -e 'd}' man/libtrace.3.in >$(MANUAL)/man3/libtrace.3
-	@for name in $(FUNCTIONS); do echo '.so man3/libtrace.3' >$(MANUAL)/man3/$$name.3; done
+	@for name in $(NAMES); do echo '.so man3/libtrace.3' >$(MANUAL)/man3/$$name.3; done
 
 uninstall:
 	@rm -f $(INSTALL_FILES:%=$(ROOT)/%)
@@ -185,7 +185,7 @@ SEED = 7
 soak: lib $(REFEREE)
 	@$(REFEREE) soak $(SECONDS) $(SEED)
 
-# Our read and tokens against other matchers, each call by itself, the worst tables, and our compile against theirs: microseconds and
-# ratios, in one run.
+# Our read and tokens against other matchers, each call by itself, the worst tables, our compile against theirs, and our order against one pass
+# over the names: times and ratios, in one run.
 bench: lib
 	@bash bench/run.sh

@@ -1,6 +1,7 @@
 /*
  * ours LOAD MS: prints the microseconds of trace_read and trace_tokens, and the last token span of each tag.
- * ours LOAD MS CALL: prints the microseconds of that call alone: Check, Read, Spell, Compare (the reading with itself) or Tokens.
+ * ours LOAD MS CALL: prints the microseconds of that call alone: Check, Read, Spell, Compare (the reading with itself), Tokens or Order (64 times
+ * the pair of the first token's name and the last one's).
  */
 #include <stdio.h>
 #include <stdlib.h>
@@ -26,8 +27,9 @@ static void read_line(void *arg)
         answer = trace_tokens(load.table, 4 * load.records, start, reading, 2 * (size_t)answer, tokens, tokens_len);
 }
 
-/* Each call by itself, on the reading of the line. */
-static size_t read_records;
+/* Each call by itself, on the reading of the line, or on its tokens. */
+static size_t read_records, token_count;
+static trace_pair pairs[TRACE_MAX_PAIRS];
 #define TABLE load.table, 4 * load.records
 #define READING reading, 2 * read_records
 
@@ -61,20 +63,32 @@ static void only_tokens(void *arg)
     answer = trace_tokens(TABLE, load.records - 1, READING, tokens, tokens_len);
 }
 
+static void only_order(void *arg)
+{
+    (void)arg;
+    answer = trace_order(tokens, TRACE_TOKEN * token_count, pairs, TRACE_MAX_PAIRS);
+}
+
 static const struct {
     const char *name;
     void (*call)(void *);
-} calls[] = {{"Check", only_check}, {"Read", only_read}, {"Spell", only_spell}, {"Compare", only_compare}, {"Tokens", only_tokens}};
+} calls[] = {{"Check", only_check},     {"Read", only_read},     {"Spell", only_spell},
+             {"Compare", only_compare}, {"Tokens", only_tokens}, {"Order", only_order}};
 
 /* Times the call with this name. Only Check may be asked of a line that is refused. */
 static int time_call(const char *name, double ms)
 {
     only_read(NULL);
     read_records = trace_is_refused(answer) ? 0 : (size_t)answer;
+    only_tokens(NULL);
+    token_count = trace_is_refused(answer) ? 0 : (size_t)answer;
+    for (size_t i = 0; i < TRACE_MAX_PAIRS && token_count > 0; i++)
+        pairs[i].first = tokens[0], pairs[i].second = tokens[TRACE_TOKEN * (token_count - 1)];
     for (size_t i = 0; i < sizeof calls / sizeof *calls; i++)
         if (strcmp(name, calls[i].name) == 0) {
             printf("%.4f\n", measure(calls[i].call, NULL, ms));
-            return trace_is_refused(answer) || (calls[i].call == only_compare && answer != 0);
+            return trace_is_refused(answer) || (calls[i].call == only_compare && answer != 0)
+                   || (calls[i].call == only_order && answer != token_count);
         }
     return 2;
 }

@@ -1,6 +1,6 @@
 #!/bin/bash
 # Times our read + tokens against regular expression engines with capture groups, our calls one by one, the worst tables that are known, our
-# time against the line's length and the table's size, and our compile against the regcomp of the engines that have one.
+# time against the line's length and the table's size, our compile against the regcomp of the engines that have one, and our order on a long list.
 # Run make lib first (make bench does).
 #   bash bench/run.sh             prints the tables
 #   bash bench/run.sh --markdown  prints the text of docs/BENCH.md and writes its pictures, docs/length.svg and docs/records.svg
@@ -27,7 +27,7 @@ version() { dpkg-query -W -f '${Version}' "$1" 2>/dev/null || echo "version not 
 mkdir -p $OUT/hs
 $CC $FLAGS -c bench/loads.c -o $OUT/loads.o && $CC $FLAGS bench/list.c $OUT/loads.o -o $OUT/list &&
     $CC $FLAGS bench/ours.c $OUT/loads.o $LIB -o $OUT/ours && $CC $FLAGS bench/posix.c $OUT/loads.o -o $OUT/glibc &&
-    $CC $FLAGS bench/worst.c $LIB -o $OUT/worst &&
+    $CC $FLAGS bench/worst.c $LIB -o $OUT/worst && $CC $FLAGS bench/order.c $LIB -o $OUT/order &&
     $CC $FLAGS bench/compile.c $LIB -o $OUT/compile && $CC $FLAGS -DUSE_GLIBC bench/compile.c -o $OUT/compile-glibc || fail "build"
 peers=(glibc)
 compilers=(glibc)
@@ -195,7 +195,7 @@ peer_lists() {
     printf -- '- %s\n' "${missing[@]}"
 }
 
-calls=(Check Read Spell Compare Tokens)
+calls=(Check Read Spell Compare Tokens Order)
 worst_tables=$($OUT/worst) || fail "the worst tables"
 for part in loads length records; do
     for n in $($OUT/list $part | cut -d' ' -f1); do first ours "$n"; done
@@ -205,15 +205,20 @@ for n in 0 1 2; do
 done
 for n in $(cut -d' ' -f1 <<<"$worst_tables"); do first worst "$n"; done
 for n in $($OUT/compile | cut -d' ' -f1); do first compile "$n"; done
+for n in $($OUT/order | cut -d' ' -f1); do
+    first order "$n"
+    first order "$n" pass
+done
 
 if [ "$MARKDOWN" ]; then
     cat <<END
 # Benchmark
 
 Our read + tokens against what a user would pick instead: regular expression engines with capture groups, one process for each. Below are
-refused lines, each call by itself, the worst tables, the time against the line's length and the table's size, and our compile against
-the engines' own. To repeat it: \`make bench\` prints the tables; \`bash bench/run.sh --markdown >docs/BENCH.md\` writes this page and its
-pictures. glibc is always there; the Debian packages libtre-dev, libre2-dev, and ghc with libghc-regex-tdfa-dev bring the others.
+refused lines, each call by itself, the worst tables, the time against the line's length and the table's size, our compile against the
+engines' own, and our order of tokens on a long list. To repeat it: \`make bench\` prints the tables, and
+\`bash bench/run.sh --markdown >docs/BENCH.md\` writes this page and its pictures. glibc is always there; the Debian packages libtre-dev,
+libre2-dev, and ghc with libghc-regex-tdfa-dev bring the others.
 
 - Each work load is one expression tree in \`bench/loads.c\`, written out as our table and as an anchored POSIX expression (for RE2 with
   capture groups for the tokens only). A token is a capture group that is not empty. Inside a star a group keeps the last
@@ -259,10 +264,11 @@ for n in 0 1 2; do $OUT/list $n | head -n 2; done
 [ -z "$MARKDOWN" ] || echo '```'
 
 section "Each call by itself" <<'END'
-Microseconds of one call on the ordinary lines. Compare is asked for the reading with itself, and answers 0.
+Microseconds of one call on the ordinary lines. Compare is asked for the reading with itself, and answers 0. Order is asked with 64 pairs, which
+the line's tokens keep.
 END
 head=(line bytes records "${calls[@]/%/ µs}")
-wide=(28 5 7 10 10 10 10 10)
+wide=(28 5 7 10 10 10 10 10 10)
 heading
 checks=()
 for n in 0 1 2; do
@@ -333,3 +339,17 @@ while read -r n bytes name; do
 done < <($OUT/compile)
 echo
 echo "The time a byte at 4,096 bytes through that at 64: $growth."
+
+section "The order of tokens" <<'END'
+Our order of a long token list by pairs of names that it keeps, so that it is walked to its end. All 256 names stand in it. one pass: a loop in C
+over the same list that only adds up the names. The times are taken as above; the ratio is ours through the pass.
+END
+head=("token list" pairs "ours ms" spread "ns a token" "one pass ms" ratio)
+wide=(28 5 8 7 10 11 6)
+heading
+while read -r n tokens pairs; do
+    read -r ours spread < <(both order "$n") || exit 1
+    read -r pass _ < <(both order "$n" pass) || exit 1
+    read -r whole each pass_whole < <(awk -v x="$ours" -v y="$pass" -v n="$tokens" 'BEGIN { print x / 1000, 1000 * x / n, y / 1000 }')
+    row "$tokens tokens" "$pairs" "$(us "$whole")" "$(percent "$spread")" "$(us "$each")" "$(us "$pass_whole")" "$(ratio "$ours" "$pass")"
+done < <($OUT/order)

@@ -1,11 +1,11 @@
 /*
- * An example commissioning tool: reads a trace from standard input line by line and shows each line's tokens by name.
+ * An example commissioning tool: reads a trace from standard input line by line and shows each line's tokens by name. Of a line that has a brake
+ * temperature with no lift temperature ahead of it, it shows that temperature instead.
  *
  *     cc commission.c $(pkg-config --cflags --libs trace) -o commission
  *     ./commission <trace.txt
  *
- * It uses every call but trace_compile, which rules.c shows. Exit status: 0 if every line was read, 1 if one was refused, 2 if the tool itself
- * could not go on.
+ * It makes every call. Exit status: 0 if every line was shown, 1 if one was not, 2 if the tool itself could not go on.
  */
 #define _POSIX_C_SOURCE 200809L /* getline */
 #include <stdio.h>
@@ -14,35 +14,22 @@
 
 #include <trace.h>
 
-/* The tokens of a line such as "12:04 lift 29". */
-enum { TIME = 1, SENSOR, TEMPERATURE };
-static const char *const names[] = {"", "time", "sensor", "temperature"};
-
-/* The rule, a record a line: kind, a, b, tag. Children stand above their parent, and each digit has a record of its own. */
-static const uint8_t table[] = {
-    TRACE_RANGE, '0', '9', 0,         /*  0: digit */
-    TRACE_RANGE, '0', '9', 0,         /*  1: digit */
-    TRACE_SEQ, 0, 1, 0,               /*  2: hours, records 0 and 1 */
-    TRACE_RANGE, ':', ':', 0,         /*  3: colon */
-    TRACE_SEQ, 2, 3, 0,               /*  4: hours and colon */
-    TRACE_RANGE, '0', '9', 0,         /*  5: digit */
-    TRACE_RANGE, '0', '9', 0,         /*  6: digit */
-    TRACE_SEQ, 5, 6, 0,               /*  7: minutes */
-    TRACE_SEQ, 4, 7, TIME,            /*  8: hours, colon and minutes: a token */
-    TRACE_RANGE, ' ', ' ', 0,         /*  9: space */
-    TRACE_SEQ, 8, 9, 0,               /* 10: time and space */
-    TRACE_RANGE, 'a', 'z', 0,         /* 11: small letter */
-    TRACE_STAR, 11, 0, SENSOR,        /* 12: small letters: a token, unless there is none */
-    TRACE_SEQ, 10, 12, 0,             /* 13: time, space and sensor */
-    TRACE_RANGE, ' ', ' ', 0,         /* 14: space */
-    TRACE_SEQ, 13, 14, 0,             /* 15: time, space, sensor and space */
-    TRACE_RANGE, '0', '9', 0,         /* 16: digit */
-    TRACE_RANGE, '0', '9', 0,         /* 17: digit */
-    TRACE_STAR, 17, 0, 0,             /* 18: more digits, or none */
-    TRACE_SEQ, 16, 18, TEMPERATURE,   /* 19: at least one digit: a token */
-    TRACE_SEQ, 15, 19, 0,             /* 20: the whole line */
+/* The tokens of a line such as "12:04 lift 29 brake 104 launch 7". */
+enum { TIME = 1, LIFT, BRAKE, SENSOR, TEMPERATURE };
+static const char *const names[] = {
+    [TIME] = "time", [LIFT] = "lift temperature", [BRAKE] = "brake temperature", [SENSOR] = "sensor", [TEMPERATURE] = "temperature",
 };
-enum { RECORDS = sizeof table / TRACE_TABLE_RECORD, START = RECORDS - 1 };
+
+/* The rule: the time, and behind it any number of temperatures, each behind its sensor. #001 names the token 1, and so on. */
+static const char rule[] = "([0-9][0-9]:[0-9][0-9])#001"
+                           "( lift ([0-9][0-9]*)#002| brake ([0-9][0-9]*)#003| [a-z]*#004 ([0-9][0-9]*)#005)*";
+
+/* A brake temperature needs a lift temperature ahead of it. */
+static const trace_pair lift_before_brake = {LIFT, BRAKE};
+
+/* The rule's table; its last record is the start record. */
+static uint8_t table[TRACE_MAX_TABLE];
+static size_t records, table_len, start;
 
 /* Room for every line that can be read, and the reading of the line before, 0 bytes long before the first. */
 typedef struct { uint8_t *bytes; size_t room, length; } Buffer;
@@ -73,11 +60,21 @@ static int is_refused(uint64_t answer)
     return 1;
 }
 
+/* Makes the rule's table. The check is for a table from elsewhere, as a file: one that trace_compile wrote passes it. */
+static int make_table(void)
+{
+    uint64_t answer = trace_compile((const uint8_t *)rule, sizeof rule - 1, table, sizeof table);
+    if (is_refused(answer))
+        return 0;
+    records = (size_t)answer, table_len = TRACE_TABLE_RECORD * records, start = records - 1;
+    return !is_refused(trace_check(table, table_len));
+}
+
 /* What was read is the line that was sent, byte for byte. */
 static int spells(Buffer reading, const uint8_t *line, size_t length)
 {
     uint8_t back[TRACE_MAX_LINE];
-    uint64_t answer = trace_spell(table, sizeof table, START, reading.bytes, reading.length, back, sizeof back);
+    uint64_t answer = trace_spell(table, table_len, start, reading.bytes, reading.length, back, sizeof back);
     return answer == length && memcmp(back, line, length) == 0;
 }
 
@@ -85,21 +82,42 @@ static int spells(Buffer reading, const uint8_t *line, size_t length)
 static int repeats(const Buffers *buffers)
 {
     Buffer reading = buffers->reading, before = buffers->before;
-    return trace_compare(table, sizeof table, START, reading.bytes, reading.length, before.bytes, before.length) == 0;
+    return trace_compare(table, table_len, start, reading.bytes, reading.length, before.bytes, before.length) == 0;
+}
+
+static void show_token(const uint8_t *line, const uint8_t *token)
+{
+    printf("%s '%.*s'", names[token[0]], (int)token[2], (const char *)line + token[1]);
+}
+
+/* Every brake temperature has a lift temperature ahead of it; if not, the first that has none is shown. */
+static int in_order(const uint8_t *line, const uint8_t *tokens, size_t count)
+{
+    uint64_t answer = trace_order(tokens, TRACE_TOKEN * count, &lift_before_brake, 1);
+    if (answer == count)
+        return 1;
+    if (!is_refused(answer)) {
+        show_token(line, tokens + TRACE_TOKEN * answer);
+        printf(" (token %u) has no %s ahead of it\n", (unsigned)answer, names[lift_before_brake.first]);
+    }
+    return 0;
 }
 
 static void show_tokens(const uint8_t *line, const uint8_t *tokens, size_t count)
 {
     printf("%zu tokens\n", count);
-    for (const uint8_t *token = tokens; token < tokens + TRACE_TOKEN * count; token += TRACE_TOKEN)
-        printf("  %s '%.*s'\n", names[token[0]], (int)token[2], (const char *)line + token[1]);
+    for (const uint8_t *token = tokens; token < tokens + TRACE_TOKEN * count; token += TRACE_TOKEN) {
+        printf("  ");
+        show_token(line, token);
+        printf("\n");
+    }
 }
 
-/* Reads a line and shows its tokens, or the refusal; says whether it was read. */
+/* Reads a line and shows its tokens, or what is wrong with it; says whether the tokens were shown. */
 static int show_line(Buffers *buffers, const uint8_t *line, size_t length)
 {
     Buffer *reading = &buffers->reading, tokens = buffers->tokens, work = buffers->work;
-    uint64_t answer = trace_read(table, sizeof table, START, line, length, work.bytes, work.room, reading->bytes, reading->room);
+    uint64_t answer = trace_read(table, table_len, start, line, length, work.bytes, work.room, reading->bytes, reading->room);
     if (is_refused(answer))
         return 0;
     reading->length = TRACE_READING_RECORD * (size_t)answer;
@@ -111,8 +129,8 @@ static int show_line(Buffers *buffers, const uint8_t *line, size_t length)
         printf("the same line again\n");
         return 1;
     }
-    answer = trace_tokens(table, sizeof table, START, reading->bytes, reading->length, tokens.bytes, tokens.room);
-    if (is_refused(answer))
+    answer = trace_tokens(table, table_len, start, reading->bytes, reading->length, tokens.bytes, tokens.room);
+    if (is_refused(answer) || !in_order(line, tokens.bytes, (size_t)answer))
         return 0;
     show_tokens(line, tokens.bytes, (size_t)answer);
     Buffer older = buffers->before;
@@ -123,10 +141,10 @@ static int show_line(Buffers *buffers, const uint8_t *line, size_t length)
 
 int main(void)
 {
-    if (is_refused(trace_check(table, sizeof table)))
+    if (!make_table())
         return 2;
-    size_t readings = trace_reading_size(RECORDS, TRACE_MAX_LINE);
-    Buffers buffers = {buffer_of(trace_work_size(RECORDS, TRACE_MAX_LINE)), buffer_of(readings),
+    size_t readings = trace_reading_size(records, TRACE_MAX_LINE);
+    Buffers buffers = {buffer_of(trace_work_size(records, TRACE_MAX_LINE)), buffer_of(readings),
                        buffer_of(trace_tokens_size(TRACE_MAX_LINE)), buffer_of(readings)};
 
     char *line = NULL;

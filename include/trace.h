@@ -1,16 +1,16 @@
 /*
  * Trace line reader: cuts a line into named tokens by a table of regular expressions, by the POSIX rule. The table is written by hand, or made
- * from a text by trace_compile.
+ * from a text by trace_compile. trace_order says whether the tokens' names stand in the order that pairs of names ask for.
  *
  * Every call returns one 64-bit number: its result, or a refusal's number times 2^32 plus the refusal's detail. Take it apart with
- * trace_is_refused, trace_refusal and trace_detail. A result is always below 2^32.
+ * trace_is_refused, trace_refusal and trace_detail. A result is below 2^32, but for that of trace_order on 2^32 tokens (12 GiB) and more.
  *
- * What the caller owes: a pointer with a length above 0 points to that many bytes (one with length 0 may be null, or any address), and a
- * buffer that a call writes to (work, out) overlaps no other argument. Nothing else: every text, table, start number, line, reading and
- * length is taken, and the call comes to an end with its result or a refusal. The calls keep no state and allocate nothing; several threads may
- * call at once on buffers of their own. A call needs less than 1 MiB of stack.
+ * What the caller owes: a pointer with a length above 0 points to that many bytes, or pairs (one with length 0 may be null, or any address),
+ * and a buffer that a call writes to (work, out) overlaps no other argument. Nothing else: every text, table, start number, line, reading,
+ * token list, pair and length is taken, and the call comes to an end with its result or a refusal. The calls keep no state and allocate nothing;
+ * several threads may call at once on buffers of their own. A call needs less than 1 MiB of stack.
  *
- * The functions defined here are in no library: they are compiled into the caller, C99 or C++. The six calls are in libtrace.a and
+ * The functions defined here are in no library: they are compiled into the caller, C99 or C++. The seven calls are in libtrace.a and
  * libtrace.so:
  *     cc tool.c $(pkg-config --cflags --libs trace)
  *
@@ -27,10 +27,10 @@
 extern "C" {
 #endif
 
-/* The version, as numbers and as text ("2.1.1"). Another major number says that a format or a call's result has changed. */
+/* The version, as numbers and as text ("2.2.0"). Another major number says that a format or a call's result has changed. */
 #define TRACE_VERSION_MAJOR 2
-#define TRACE_VERSION_MINOR 1
-#define TRACE_VERSION_PATCH 1
+#define TRACE_VERSION_MINOR 2
+#define TRACE_VERSION_PATCH 0
 #define TRACE_TEXT_OF(macro) TRACE_TEXT(macro)
 #define TRACE_TEXT(word) #word
 #define TRACE_VERSION TRACE_TEXT_OF(TRACE_VERSION_MAJOR) "." TRACE_TEXT_OF(TRACE_VERSION_MINOR) "." TRACE_TEXT_OF(TRACE_VERSION_PATCH)
@@ -40,6 +40,7 @@ extern "C" {
 #define TRACE_MAX_LINE 255        /* bytes of a line */
 #define TRACE_MAX_TEXT 4096       /* bytes of a text for trace_compile */
 #define TRACE_MAX_TABLE 1020      /* bytes of a table; a buffer of these is always long enough for trace_compile */
+#define TRACE_MAX_PAIRS 64        /* pairs for trace_order */
 #define TRACE_TABLE_RECORD 4      /* kind, a, b, tag */
 #define TRACE_READING_RECORD 2    /* kind, argument */
 #define TRACE_TOKEN 3             /* tag, offset in the line, length */
@@ -89,6 +90,9 @@ extern "C" {
 /* The text's. */
 #define TRACE_REFUSED_TEXT 15     /* text outside the notation, or over 4,096 bytes */
 #define TRACE_REFUSED_RECORDS 16  /* the text's table has over 255 records */
+/* Those of trace_order. */
+#define TRACE_REFUSED_PAIRS 17    /* over 64 pairs */
+#define TRACE_REFUSED_TOKEN_BYTES 18 /* token list whose bytes are not a multiple of 3 */
 
 /* An answer taken apart. */
 static inline int trace_is_refused(uint64_t answer) { return (answer >> 32) != 0; }
@@ -116,6 +120,8 @@ static inline const char *trace_refusal_text(uint32_t refusal)
     case TRACE_REFUSED_DIFFER: return "the two readings spell different lines";
     case TRACE_REFUSED_TEXT: return "the text is outside the notation, or over 4,096 bytes long";
     case TRACE_REFUSED_RECORDS: return "the text's table has over 255 records";
+    case TRACE_REFUSED_PAIRS: return "there are over 64 pairs of names";
+    case TRACE_REFUSED_TOKEN_BYTES: return "the token list is not made of whole tokens of 3 bytes";
     default: return "no refusal has this number";
     }
 }
@@ -180,6 +186,20 @@ uint64_t trace_tokens(const uint8_t *table, size_t table_len, uint64_t start, co
  * digits, token 1, and then the letter C.
  */
 uint64_t trace_compile(const uint8_t *text, size_t text_len, uint8_t *out, size_t out_len);
+
+/* Two names of tokens: a token with the second needs, earlier in its list, one with the first. 2 bytes, without padding. */
+typedef struct { uint8_t first, second; } trace_pair;
+
+/*
+ * Says whether a token list keeps every pair: each token with the second name of a pair has, earlier in the list, a token with its first name.
+ * A pair with one name twice is broken by the first token of that name. Result: the number, from 0, of the first token that breaks a pair, and
+ * where every pair is kept the token count, tokens_len / TRACE_TOKEN. Refusals, in this order: 17, 18.
+ *
+ * The list is as trace_tokens writes it, 3 bytes for each token, and of any length. A name may be any byte; offsets and lengths are not looked
+ * at. tokens_len counts bytes, pairs_len pairs. On 2^32 tokens and more, where a result may look like a refusal, the lengths tell them apart: it
+ * is 17 exactly if pairs_len is above TRACE_MAX_PAIRS, and otherwise 18 exactly if tokens_len is not a multiple of TRACE_TOKEN.
+ */
+uint64_t trace_order(const uint8_t *tokens, size_t tokens_len, const trace_pair *pairs, size_t pairs_len);
 
 #ifdef __cplusplus
 }

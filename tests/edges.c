@@ -1,11 +1,13 @@
 /*
- * Every refusal of Read, Spell, Compare, Tokens and Compile at its edge, with the answers that documents 01 and 02 state; buffers are compared
- * byte for byte. Other at its bounds. Empty tagged parts, which are no tokens. And null pointers with length 0, in all six calls.
+ * Every refusal of Read, Spell, Compare, Tokens, Compile and Order at its edge, with the answers that documents 01 and 02 state; buffers are
+ * compared byte for byte. Other at its bounds. Empty tagged parts, which are no tokens. Names that must come first. And null pointers with length
+ * 0, in all seven calls.
  * Prints the number of answers, or the first one that is wrong.
  */
 #include <stdio.h>
 #include <stdlib.h>
 #include <string.h>
+#include <sys/mman.h>
 
 #include "trace.h"
 
@@ -114,12 +116,57 @@ static void outside(const char *texts)
     }
 }
 
+typedef struct { const trace_pair *at; size_t count; } Pairs;
+#define PAIRS(...) ((Pairs){(const trace_pair[]){__VA_ARGS__}, sizeof((const trace_pair[]){__VA_ARGS__}) / sizeof(trace_pair)})
+static const trace_pair no_pair[1];
+static const Pairs no_pairs = {no_pair, 0};
+
+static void order(const char *name, Bytes tokens, Pairs pairs, uint64_t want)
+{
+    expect(name, trace_order(tokens.at, tokens.length, pairs.at, pairs.count), want);
+}
+
+/* Tokens by their names alone. Offsets and lengths are other names of the pairs below, so that none is taken for a name. */
+static void named(const char *name, Bytes names, Pairs pairs, uint64_t want)
+{
+    uint8_t tokens[3 * 16];
+    for (size_t i = 0; i < names.length; i++)
+        tokens[3 * i] = names.at[i], tokens[3 * i + 1] = (uint8_t)(8 + i % 2), tokens[3 * i + 2] = (uint8_t)(9 - i % 2);
+    order(name, (Bytes){tokens, 3 * names.length}, pairs, want);
+}
+
 /* Read, then the tokens of what it wrote. */
 static void cut(const char *name, Bytes table, uint64_t start, Bytes line, uint64_t want, Bytes front)
 {
     uint8_t work[1024], reading[1024];
     uint64_t records = trace_read(table.at, table.length, start, line.at, line.length, work, sizeof work, reading, sizeof reading);
     tokens(name, table, start, (Bytes){reading, trace_is_refused(records) ? 0 : TRACE_READING_RECORD * records}, 1024, want, front);
+}
+
+/* Over 2^32 tokens: the result is no longer below 2^32. They are zeros that take no memory; where there is no room for their addresses, nothing
+   is asked. */
+static void very_many_tokens(Pairs pairs)
+{
+    size_t count = ((size_t)1 << 32) + 2, length = 3 * count;
+    void *zeros = mmap(NULL, length, PROT_READ, MAP_PRIVATE | MAP_ANONYMOUS | MAP_NORESERVE, -1, 0);
+    if (zeros == MAP_FAILED)
+        return;
+    order("over 2^32 tokens", (Bytes){zeros, length}, pairs, count);
+    order("over 2^32 tokens, the first breaks", (Bytes){zeros, length}, PAIRS({0, 0}), 0);
+    order("over 2^32 tokens, one byte less", (Bytes){zeros, length - 1}, pairs, REFUSED(18, 0));
+    munmap(zeros, length);
+}
+
+/* Compile, Read, the tokens of what it wrote, and their order. */
+static void ordered(const char *name, Bytes text, Bytes line, Bytes list, Pairs pairs, uint64_t want)
+{
+    static uint8_t table[TRACE_MAX_TABLE], work[20000], reading[4000];
+    uint64_t records = trace_compile(text.at, text.length, table, sizeof table);
+    Bytes made = {table, trace_is_refused(records) ? 0 : TRACE_TABLE_RECORD * records};
+    uint64_t written = trace_read(made.at, made.length, records - 1, line.at, line.length, work, sizeof work, reading, sizeof reading);
+    Bytes front = {reading, trace_is_refused(written) ? 0 : TRACE_READING_RECORD * written};
+    tokens(name, made, records - 1, front, list.length, list.length / TRACE_TOKEN, list);
+    order(name, list, pairs, want);
 }
 
 /* A table of one letter: bytes that it holds, each as a line and as a reading, bytes that it does not hold, and the empty line. */
@@ -140,14 +187,16 @@ static void letter(const char *name, Bytes table, Bytes held, Bytes missed)
 
 /*
  * Every choice of empty arguments, for each call: a null pointer with length 0 gets the answer of a valid pointer with length 0, and the
- * buffer is left the same. The bits of `empties`: 0 the table, 1 the line or the reading, 2 the work area or the second reading, 3 the
- * buffer.
+ * buffer is left the same. The bits of `empties`: 0 the table or the tokens, 1 the line or the reading, 2 the work area or the second reading, 3
+ * the buffer or the pairs.
  */
 static void nulls(Bytes table, uint64_t start, Bytes line, Bytes reading, Bytes rival)
 {
     static uint8_t work[100], out[2][16], spare[1];
+    static const uint8_t listed[] = {9, 0, 1};
+    static const trace_pair pair[] = {{8, 9}};
     for (int empties = 0; empties < 16; empties++) {
-        uint64_t got[2][6];
+        uint64_t got[2][7];
         for (int null = 0; null < 2; null++) {
             uint8_t *at = null ? NULL : spare, *to = out[null];
             memset(to, 0xee, sizeof out[null]);
@@ -158,9 +207,10 @@ static void nulls(Bytes table, uint64_t start, Bytes line, Bytes reading, Bytes 
             got[null][3] = trace_compare(ARG(0, table.at, table.length), start, ARG(1, reading.at, reading.length), ARG(2, rival.at, rival.length));
             got[null][4] = trace_tokens(ARG(0, table.at, table.length), start, ARG(1, reading.at, reading.length), ARG(3, to, 16));
             got[null][5] = trace_compile(ARG(1, line.at, line.length), ARG(3, to, 16));
+            got[null][6] = trace_order(ARG(0, listed, sizeof listed), empties >> 3 & 1 ? (const trace_pair *)at : pair, empties >> 3 & 1 ? 0 : 1);
 #undef ARG
         }
-        for (int call = 0; call < 6; call++)
+        for (int call = 0; call < 7; call++)
             expect("null with length 0", got[1][call], got[0][call]);
         expect_buffer("null with length 0", out[1], sizeof out[1], (Bytes){out[0], sizeof out[0]});
     }
@@ -420,6 +470,107 @@ int main(void)
     memset(text, 'a', sizeof text);
     compile("4,096 bytes and 8,191 records", (Bytes){text, TRACE_MAX_TEXT}, 2048, REFUSED(16, 0), empty);
     compile("4,097 bytes and 8,193 records", (Bytes){text, TRACE_MAX_TEXT + 1}, 2048, REFUSED(15, 0), empty);
+
+    /* names that must come first, a lift 8 before a brake 9: the worked example of docs/FORMATS.md */
+    Pairs lift = PAIRS({8, 9});
+    Bytes rule = TEXT("([0-9][0-9]:[0-9][0-9])#001( lift ([0-9][0-9]*)#008| brake ([0-9][0-9]*)#009)*");
+    ordered("lift, brake", rule, TEXT("12:04 lift 29 brake 104"), BYTES(1, 0, 5, 8, 11, 2, 9, 20, 3), lift, 3);
+    ordered("brake alone", rule, TEXT("12:04 brake 104"), BYTES(1, 0, 5, 9, 12, 3), lift, 1);
+    ordered("lift behind the brake", rule, TEXT("12:04 brake 104 lift 29"), BYTES(1, 0, 5, 9, 12, 3, 8, 21, 2), lift, 1);
+
+    /* kept: no token, no pair, names that are not there, two brakes for one lift, and a chain */
+    named("no token", empty, lift, 0);
+    named("no pair", BYTES(9, 9, 8), no_pairs, 3);
+    named("no token and no pair", empty, no_pairs, 0);
+    named("neither name", BYTES(1, 2, 3), lift, 3);
+    named("the first name alone", BYTES(1, 8), lift, 2);
+    named("two brakes for one lift", BYTES(8, 1, 9, 9), lift, 4);
+    named("lifts on both sides", BYTES(8, 9, 8, 9), lift, 4);
+    named("a chain", BYTES(7, 8, 9), PAIRS({8, 9}, {7, 8}), 3);
+
+    /* broken: by the first token that breaks any pair, whatever the order of the pairs */
+    named("the first token", BYTES(9, 8, 9), lift, 0);
+    named("the last token", BYTES(1, 2, 3, 9), lift, 3);
+    named("two that break one pair", BYTES(1, 9, 9), lift, 1);
+    named("two pairs, the later one by the earlier token", BYTES(9, 5), PAIRS({4, 5}, {8, 9}), 0);
+    named("two pairs, the earlier one by the earlier token", BYTES(9, 5), PAIRS({8, 9}, {4, 5}), 0);
+    named("one token, both pairs", BYTES(1, 9), PAIRS({7, 9}, {8, 9}), 1);
+    named("one second name, the later first name missing", BYTES(1, 8, 9), PAIRS({8, 9}, {7, 9}), 2);
+    named("one second name, the earlier first name missing", BYTES(1, 8, 9), PAIRS({7, 9}, {8, 9}), 2);
+    named("each before the other", BYTES(1, 8, 9), PAIRS({8, 9}, {9, 8}), 1);
+    named("a chain, its first link missing", BYTES(1, 8, 9), PAIRS({8, 9}, {7, 8}), 1);
+    named("a pair twice", BYTES(8, 9), PAIRS({8, 9}, {8, 9}), 2);
+    named("a pair twice, broken", BYTES(1, 9), PAIRS({8, 9}, {8, 9}), 1);
+
+    /* one name twice */
+    named("one name twice", BYTES(1, 8, 8), PAIRS({8, 8}), 1);
+    named("one name twice, one token", BYTES(8), PAIRS({8, 8}), 0);
+    named("one name twice, which no token has", BYTES(1, 9), PAIRS({8, 8}), 2);
+    named("one name twice, behind another pair", BYTES(8, 9, 1), PAIRS({8, 9}, {1, 1}), 2);
+
+    /* names may be any bytes, as 0, which is no tag; offsets and lengths are not looked at */
+    named("0 before 255", BYTES(0, 255), PAIRS({0, 255}), 2);
+    named("255 before 0", BYTES(255, 0), PAIRS({255, 0}), 2);
+    named("0 behind 255", BYTES(255, 0), PAIRS({0, 255}), 0);
+    named("255 behind 0", BYTES(1, 0, 255), PAIRS({255, 0}), 1);
+    named("0 twice", BYTES(1, 0), PAIRS({0, 0}), 1);
+    named("127 for 255", BYTES(127, 255, 9), PAIRS({255, 9}, {127, 255}), 3);
+    named("128 for 0", BYTES(128, 9), PAIRS({0, 9}), 1);
+    order("offsets and lengths with the names", BYTES(1, 9, 9, 2, 8, 8), lift, 2);
+    order("a first name in an offset and a length alone", BYTES(1, 8, 8, 9, 8, 8), lift, 1);
+    order("tokens of length 0, out of place, one over the other", BYTES(8, 255, 0, 8, 0, 255, 9, 0, 0), lift, 3);
+    order("a token of length 0 that breaks", BYTES(1, 255, 0, 9, 0, 0), lift, 1);
+
+    /* 17 at 65 pairs, 18 at 1 and 2 bytes over, in this order; each pair of 64 is looked at */
+    trace_pair sixty_five[TRACE_MAX_PAIRS + 1];
+    for (size_t i = 0; i <= TRACE_MAX_PAIRS; i++)
+        sixty_five[i] = (trace_pair){8, 9};
+    Pairs most = {sixty_five, TRACE_MAX_PAIRS}, over = {sixty_five, TRACE_MAX_PAIRS + 1};
+    Bytes kept = BYTES(8, 0, 1, 9, 1, 1, 7, 2, 1, 9, 3);
+    for (size_t bytes = 0; bytes <= kept.length; bytes++) {
+        Bytes list = {kept.at, bytes};
+        uint64_t want = bytes % 3 ? REFUSED(18, 0) : bytes / 3;
+        order("no pair", list, no_pairs, want);
+        order("one pair", list, lift, want);
+        order("64 pairs", list, most, want);
+        order("65 pairs", list, over, REFUSED(17, 0));
+        order("a name twice", list, PAIRS({8, 8}), bytes % 3 ? REFUSED(18, 0) : 0);
+    }
+    for (size_t i = 0; i < TRACE_MAX_PAIRS; i++) {
+        sixty_five[i] = (trace_pair){6, 7};
+        order("one of 64 pairs broken", (Bytes){kept.at, 9}, most, 2);
+        order("one of 64 pairs broken, 2 bytes over", kept, most, REFUSED(18, 0));
+        order("one of 65 pairs broken", (Bytes){kept.at, 9}, over, REFUSED(17, 0));
+        order("one of so many pairs broken, the last", (Bytes){kept.at, 9}, (Pairs){sixty_five, i + 1}, 2);
+        order("pairs before the broken one", (Bytes){kept.at, 9}, (Pairs){sixty_five, i}, 3);
+        sixty_five[i] = (trace_pair){8, 9};
+    }
+
+    /* a pair is two bytes, and both lists may begin at any address */
+    expect("a pair's bytes", sizeof(trace_pair), 2);
+    for (size_t i = 0; i < 4; i++) {
+        uint8_t moved[16], *list = moved + i, *pair = list + 7;
+        memcpy(list, kept.at, 6), memcpy(pair, BYTES(8, 9).at, 2);
+        expect("any address", trace_order(list, 6, (const trace_pair *)pair, 1), 2);
+        expect("any address, broken", trace_order(list + 3, 3, (const trace_pair *)pair, 1), 0);
+    }
+
+    /* a million tokens, the last alone named 2 */
+    enum { MILLION = 1000000 };
+    uint8_t *million = malloc(3 * MILLION);
+    if (million == NULL)
+        return 2;
+    for (size_t i = 0; i < MILLION; i++)
+        million[3 * i] = 1, million[3 * i + 1] = 2, million[3 * i + 2] = 3;
+    million[3 * (MILLION - 1)] = 2;
+    Bytes long_list = {million, 3 * MILLION};
+    order("a million tokens", long_list, PAIRS({1, 2}), MILLION);
+    order("a million tokens, the last breaks", long_list, PAIRS({1, 2}, {3, 2}), MILLION - 1);
+    order("a million tokens, the first breaks", long_list, PAIRS({3, 2}, {2, 1}), 0);
+    order("a million tokens, one byte less", (Bytes){million, 3 * MILLION - 1}, PAIRS({3, 2}), REFUSED(18, 0));
+    order("a million tokens and 65 pairs", long_list, over, REFUSED(17, 0));
+    free(million);
+    very_many_tokens(lift);
 
     /* null pointers: with a line, and where an empty line and an empty buffer are no refusal */
     nulls(t1, 9, abc, c, c);

@@ -9,7 +9,9 @@ fail() {
 diff examples/commission.expected <("$1" <examples/commission.input) || fail "other output than examples/commission.expected"
 "$1" <examples/commission.input >/dev/null
 [ $? -eq 1 ] || fail "the status is not 1 where a line is refused"
-printf '12:04 lift 29' | "$1" >/dev/null || fail "the status is not 0 where every line is read"
+printf '12:04 lift 29\n12:04 lift 29 brake 104' | "$1" >/dev/null || fail "the status is not 0 where every line is shown"
+printf '12:04 brake 104' | "$1" >/dev/null
+[ $? -eq 1 ] || fail "the status is not 1 where a brake temperature has no lift temperature ahead of it"
 "$1" <. >/dev/null 2>&1
 [ $? -eq 2 ] || fail "the status is not 2 where reading fails"
 (ulimit -v 100000 && head -c 200000000 /dev/zero | "$1" >/dev/null 2>&1)

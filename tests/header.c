@@ -1,5 +1,6 @@
 /*
- * The header's own functions, in C and in C++: version, answers taken apart, refusals in words, sizes. Exit status 0 if all is right.
+ * The header's own functions and its struct, in C and in C++: version, answers taken apart, refusals in words, sizes, pairs. Exit status 0 if all
+ * is right.
  */
 #include <stdio.h>
 #include <string.h>
@@ -26,7 +27,7 @@ static void version(void)
 /* Each number from 0 to one past the last refusal has a text of its own, and all later ones have that of the first of them. */
 static void texts(void)
 {
-    uint32_t i, j, end = TRACE_REFUSED_RECORDS + 1;
+    uint32_t i, j, end = TRACE_REFUSED_TOKEN_BYTES + 1;
     for (i = 0; i <= end; i++)
         for (j = 0; j < i; j++)
             expect("two numbers with one text", strcmp(trace_refusal_text(i), trace_refusal_text(j)) != 0);
@@ -49,6 +50,22 @@ static void answers(void)
     expect("a text's table", answer == 1 && memcmp(reading, "\2aa", TRACE_TABLE_RECORD) == 0);
 }
 
+/* A pair is two bytes, the first name before the second, so bytes may be lent as pairs. */
+static void pairs(void)
+{
+    static const trace_pair pair[] = {{1, 2}};
+    static const uint8_t bytes[] = {1, 2}, kept[] = {1, 0, 1, 2, 1, 1}, broken[] = {2, 0, 1, 1, 1, 1};
+    trace_pair many[TRACE_MAX_PAIRS + 1];
+    memset(many, 0, sizeof many);
+    expect("a pair's bytes", sizeof(trace_pair) == 2 && memcmp(pair, bytes, sizeof bytes) == 0);
+    expect("pairs that are kept", trace_order(kept, sizeof kept, pair, 1) == sizeof kept / TRACE_TOKEN);
+    expect("bytes lent as pairs", trace_order(kept, sizeof kept, (const trace_pair *)bytes, 1) == sizeof kept / TRACE_TOKEN);
+    expect("a pair that is broken", trace_order(broken, sizeof broken, pair, 1) == 0);
+    expect("as many pairs as there may be", !trace_is_refused(trace_order(kept, sizeof kept, many, TRACE_MAX_PAIRS)));
+    expect("too many pairs", trace_refusal(trace_order(kept, 1, many, TRACE_MAX_PAIRS + 1)) == TRACE_REFUSED_PAIRS);
+    expect("part of a token", trace_refusal(trace_order(kept, 4, pair, 1)) == TRACE_REFUSED_TOKEN_BYTES);
+}
+
 static void sizes(void)
 {
     expect("the work area's size", trace_work_size(10, 3) == 100 && trace_work_size(255, 255) == 8388480 && trace_work_size(1, 0) == 1);
@@ -62,6 +79,7 @@ int main(void)
     version();
     texts();
     answers();
+    pairs();
     sizes();
     return bad;
 }

@@ -1,5 +1,5 @@
 /*
- * loaded LIBRARY: opens the shared library at run time and makes each of the six calls through it. Exit status 0 if every answer is right.
+ * loaded LIBRARY: opens the shared library at run time and makes each of the seven calls through it. Exit status 0 if every answer is right.
  */
 #include <dlfcn.h>
 #include <stdio.h>
@@ -41,6 +41,7 @@ int main(int count, char **arguments)
     uint64_t (*compare)(const uint8_t *, size_t, uint64_t, const uint8_t *, size_t, const uint8_t *, size_t);
     uint64_t (*tokens)(const uint8_t *, size_t, uint64_t, const uint8_t *, size_t, uint8_t *, size_t);
     uint64_t (*compile)(const uint8_t *, size_t, uint8_t *, size_t);
+    uint64_t (*order)(const uint8_t *, size_t, const trace_pair *, size_t);
     uint8_t work[100], reading[60], listed[90], line[3], made[TRACE_MAX_TABLE];
     void *library = dlopen(count == 2 ? arguments[1] : "", RTLD_NOW | RTLD_LOCAL);
     if (library == NULL) {
@@ -53,12 +54,16 @@ int main(int count, char **arguments)
     find(library, "trace_compare", &compare);
     find(library, "trace_tokens", &tokens);
     find(library, "trace_compile", &compile);
+    find(library, "trace_order", &order);
 
     expect("check", check(table, sizeof table) == 10);
     expect("read", read(table, sizeof table, 9, (const uint8_t *)"abc", 3, work, sizeof work, reading, sizeof reading) == 8);
     expect("spell", spell(table, sizeof table, 9, reading, 16, line, sizeof line) == 3 && memcmp(line, "abc", 3) == 0);
     expect("compare", compare(table, sizeof table, 9, reading, 16, reading, 16) == 0);
     expect("tokens", tokens(table, sizeof table, 9, reading, 16, listed, sizeof listed) == 2 && memcmp(listed, "\1\0\1\3\1\2", 6) == 0);
+    expect("order, kept", order(listed, 6, &(trace_pair){1, 3}, 1) == 2);
+    expect("order, broken", order(listed, 6, &(trace_pair){2, 3}, 1) == 1);
+    expect("a list that is refused", trace_refusal(order(listed, 5, &(trace_pair){1, 3}, 1)) == TRACE_REFUSED_TOKEN_BYTES);
     expect("a line that is refused",
            trace_refusal(read(table, sizeof table, 9, (const uint8_t *)"b", 1, work, sizeof work, reading, sizeof reading)) == TRACE_REFUSED_NO_READING);
     expect("compile", compile((const uint8_t *)"(bc)*#002", 9, made, sizeof made) == 4

@@ -112,4 +112,37 @@ done <<'LIST'
 81 notation Compile: refusal 16 has the records as its detail
 82 notation Compile: a buffer of exactly the table's length is refused
 83 notation Compile: one byte more is written
+84 order Order: every list is kept
+85 order Order: the last token that breaks a pair is given
+86 order Order: a first name behind the second counts
+87 order Order: a pair with one name twice is kept
+88 order Order: only the first pair is looked at
+89 order Order: 65 pairs are taken
+90 order Order: 64 pairs are refused
+91 order Order: 18 comes before 17
+92 order Order: bytes behind the last token are left out
+93 order Order: the last pair is not looked at
+94 order Order: only the token just before counts
+95 order Order: a token that breaks a pair is counted from 1
+96 order Order: the two names of a pair change places
+97 order Order: of two first names for one second name one is enough
+98 order Order: the first pair that is broken decides, not the first token
+99 order Order: the offset is taken for the name
+100 order Order: the second name 0 is passed over
+101 order Order: the second name 255 is passed over
+102 order Order: the first token is not looked at
+103 order Order: the last token is not looked at
+104 order Order: refusal 17 has the pairs as its detail
+105 order Order: refusal 18 has the bytes over as its detail
+106 order Order: a list without tokens is refused
+107 order Order: a list without pairs is refused
+108 order Order: a second name is not taken for a first name too
+109 order Order: a token of length 0 is passed over
+110 order Order: second names are compared by 7 bits
+111 order Order: the number is given in 16 bits
+112 order Order: pairs from the 33rd on are not looked at
+113 valgrind Order: reads past the end of the list
+114 valgrind Order: reads past the end of the pairs
+115 stack Order: copies the list to the stack
+116 order Order: changes the list
 LIST

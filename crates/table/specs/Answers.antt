@@ -3,7 +3,7 @@
 -- Assumes nothing.
 use Prim.Native.Nat.{ℕ, _+_, _*_}
 use Rattle.table.specs.declared.Refusal.{Refusal}
-use Rattle.table.specs.declared.Refusal.the-variants.{Size, Kind, Unused, Bounds, Child, Named, Line, NoReading, Start, Work, Buffer, Unfit, Long, Differ, Text, Records}
+use Rattle.table.specs.declared.Refusal.the-variants.{Size, Kind, Unused, Bounds, Child, Named, Line, NoReading, Start, Work, Buffer, Unfit, Long, Differ, Text, Records, Pairs, TokenBytes}
 use Rattle.table.specs.declared.Answer.{Answer}
 use Rattle.table.specs.declared.Answer.the-variants.{Done, Refused}
 
@@ -30,6 +30,8 @@ refusal (Long i) = refuses 13 i
 refusal Differ = refuses 14 0
 refusal Text = refuses 15 0
 refusal Records = refuses 16 0
+refusal Pairs = refuses 17 0
+refusal TokenBytes = refuses 18 0
 
 -- the answer in the paper's numbers
 abbrev pub says : Answer → Said

@@ -12,7 +12,7 @@ ghost use Rattle.table.specs.Checked.{checked};
 ghost use Rattle.table.specs.Letters.{byteSet};
 ghost use Rattle.table.specs.Steps.{orSaid, ownFaultOr, isSet, Marks};
 
-// Why a call is refused: one case for each of the paper's numbers 1 to 16, in their order. A case holds the refusal's detail where it
+// Why a call is refused: one case for each of the paper's numbers 1 to 18, in their order. A case holds the refusal's detail where it
 // has one.
 pub enum Refusal {
     Size,
@@ -31,6 +31,8 @@ pub enum Refusal {
     Differ,
     Text,
     Records,
+    Pairs,
+    TokenBytes,
 }
 
 // What a call answers: its result, or the refusal.
@@ -112,6 +114,14 @@ pub fn numbers_of(why: Refusal) -> Numbers
         },
         Refusal::Records => Numbers {
             number: 16,
+            detail: 0,
+        },
+        Refusal::Pairs => Numbers {
+            number: 17,
+            detail: 0,
+        },
+        Refusal::TokenBytes => Numbers {
+            number: 18,
             detail: 0,
         },
     }

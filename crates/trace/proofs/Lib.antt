@@ -4,4 +4,5 @@ pub mod Numbered
 pub mod Bounds
 pub mod Answers
 pub mod UpTo
+pub mod Ordering
 pub mod Promises

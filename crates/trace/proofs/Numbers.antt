@@ -1,6 +1,6 @@
 -- The number of a refusal, put together from the refusal's number and detail; and no two answers of the allowed size have one number.
 -- Assumes nothing.
-use Prim.Native.Nat.{ℕ, _+_, _*_, _≤_, _<_}
+use Prim.Native.Nat.{ℕ, _+_, _*_}
 use mathlib.Core.Path.{_≡_, sym, ap, ap₂, subst}
 use native.Mathlib.Omega.{arith}
 use Rattle.table.specs.Answers.{Said, gives, refuses, refusal, says, number}

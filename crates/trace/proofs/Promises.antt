@@ -1,14 +1,15 @@
 -- The page of promises: the three demands, and what document 02's requests add, over the definitions that the calls' contracts cite, each
--- proved by one citation. The contracts of table::check, matcher::read, reading::spell, tokens::tokens, ranking::compare, ranking::earlier and
--- notation::compile say that the calls answer and leave what these definitions say, for every input: none of them has a `requires`, and each is proved to end.
+-- proved by one citation. The contracts of table::check, matcher::read, reading::spell, tokens::tokens, ranking::compare, ranking::earlier,
+-- notation::compile and order::order say that the calls answer and leave what these definitions say, for every input: none of them has a
+-- `requires`, and each is proved to end.
 -- The clause rivals of matcher::read and the clause precedence of ranking::compare say demand 3 of the answer and the buffer themselves, and
 -- those of the calls for C of the number.
 -- Assumes nothing.
-use Prim.Native.Nat.{ℕ, _+_, _*_, _≤_, _<_}
+use Prim.Native.Nat.{ℕ, _+_, _*_, _%_, _≤_, _<_}
 use mathlib.Core.Path.{_≡_}
 use mathlib.Core.List.{List, [], _∷_, _++_, map}
 use mathlib.Core.Logic.{_⊎_, _↔_}
-use lib.ListN.{length, take, drop}
+use lib.ListN.{length, getD, take, drop}
 use Rattle.regex.specs.Expressions.{Exp}
 use Rattle.regex.specs.Values.{Val, flat}
 use Rattle.regex.specs.Language.{Bytes, L}
@@ -25,7 +26,7 @@ use Rattle.reading.specs.Fitting.{Fits}
 use Rattle.reading.specs.Calls.{spellSays, spellLeaves}
 use Rattle.reading.proofs.Spelling.{spell-writes}
 use Rattle.reading.proofs.Misfits.{spell-misfits}
-use Rattle.tokens.specs.Tokens.{filter, tokensFrom, tokenBytes, taggedParts, hasBytes, textAt, textOf}
+use Rattle.tokens.specs.Tokens.{Token, filter, tokensFrom, tokenBytes, taggedParts, hasBytes, textAt, textOf}
 use Rattle.tokens.specs.Listed.{tokensSays, tokensLeaves}
 use Rattle.tokens.proofs.Counts.{tokens-count}
 use Rattle.tokens.proofs.Text.{tokens-text}
@@ -45,12 +46,18 @@ use Rattle.notation.specs.Accepted.{Text, Begins, TableFor}
 use Rattle.notation.proofs.Complete.{one-tree}
 use Rattle.notation.proofs.Stopping.{stops-begins, stops-there}
 use Rattle.notation.proofs.Calls.{compile-outside, compile-many, compile-short, compile-writes, compile-gives, compile-table, compile-refused}
+use Rattle.order.specs.declared.Pair.{Pair}
+use Rattle.order.specs.declared.Verdict.the-variants.{Kept, Broken}
+use Rattle.order.specs.Breaks.{tokenCount, nameAt, Breaks, Among, Keeps, FirstToBreak}
+use Rattle.order.specs.Verdicts.{ordered, orderSays}
+use Rattle.order.proofs.Meaning.{kept-exactly, kept-count, broken-exactly, same-pairs, same-names, name-twice, order-refuses, said-many, said-uneven, said-kept, said-broken}
 use Rattle.trace.specs.Numbers.{Small}
 use Rattle.trace.specs.SameCalls.{SameCalls}
 use Rattle.trace.proofs.Answers.{read-writes, read-refused, spell-refused, tokens-refused}
 use Rattle.trace.proofs.Bounds.{small-checked, small-read, small-spell, small-compare, small-tokens, small-compile, room-for-line, room-for-all}
 use Rattle.trace.proofs.Numbers.{same-number}
 use Rattle.trace.proofs.UpTo.{up-to-same, up-to-less}
+use Rattle.trace.proofs.Ordering.{small-order, bytes-tokens, bytes-names}
 
 -- Demand 1: each call gives a result or one of document 01's refusals, for every table, start number, line, reading and length
 pub check-answers : (t : List ℕ) → Small (checked t)
@@ -70,6 +77,9 @@ compare-answers = small-compare
 
 pub compile-answers : (s : List ℕ) (room : ℕ) → Small (compileSays s room)
 compile-answers = small-compile
+
+pub order-answers : (ts : List ℕ) (ps : List Pair) → tokenCount ts < 4294967296 → Small (orderSays ts ps)
+order-answers = small-order
 
 -- Demand 1: and no two of these answers have one number for C
 pub number-unique : (x y : Said) → Small x → Small y → number x ≡ number y → x ≡ y
@@ -222,6 +232,62 @@ stops-readable = stops-begins
 
 pub stops-unreadable : (s : List ℕ) → length s ≤ 4096 → stopsAt s + 5 ≤ length s → ¬ (Begins (take (stopsAt s + 5) s))
 stops-unreadable = stops-there
+
+-- Request 5: "17 for over 64 pairs, then 18 for a token list whose bytes aren't a multiple of 3", and no other refusal, so that a list of any length
+-- is refused by its two lengths alone
+pub order-many-pairs : (ts : List ℕ) (ps : List Pair) → (orderSays ts ps ≡ refuses 17 0) ↔ (64 < length ps)
+order-many-pairs = said-many
+
+pub order-part-of-token : (ts : List ℕ) (ps : List Pair) → (orderSays ts ps ≡ refuses 18 0) ↔ ((length ps ≤ 64) × ¬ (length ts % 3 ≡ 0))
+order-part-of-token = said-uneven
+
+pub order-refusals : (ts : List ℕ) (ps : List Pair) (n d : ℕ) → orderSays ts ps ≡ refuses n d → ((n ≡ 17) ⊎ (n ≡ 18)) × (d ≡ 0)
+order-refusals = order-refuses
+
+-- Request 5: otherwise the token count is given exactly when "every token with a second name has, earlier in the list, a token with its first name"
+pub order-kept :
+    (ts : List ℕ) (ps : List Pair) → length ps ≤ 64 → length ts % 3 ≡ 0 → (orderSays ts ps ≡ gives (tokenCount ts)) ↔ Keeps ts ps
+order-kept = said-kept
+
+-- Request 5: and a lower number exactly when it is "the number, from 0, of the first token that breaks some pair"
+pub order-broken :
+    (ts : List ℕ) (ps : List Pair) (i : ℕ) → length ps ≤ 64 → length ts % 3 ≡ 0
+    → ((orderSays ts ps ≡ gives i) × (i < tokenCount ts)) ↔ FirstToBreak ts ps i
+order-broken = said-broken
+
+-- Request 5: the same of the verdict that order::order answers, which names the case
+pub verdict-kept :
+    (ts : List ℕ) (ps : List Pair) → length ps ≤ 64 → length ts % 3 ≡ 0 → (ordered ts ps ≡ Kept (tokenCount ts)) ↔ Keeps ts ps
+verdict-kept = kept-exactly
+
+pub verdict-count : (ts : List ℕ) (ps : List Pair) (n : ℕ) → ordered ts ps ≡ Kept n → n ≡ tokenCount ts
+verdict-count = kept-count
+
+pub verdict-broken :
+    (ts : List ℕ) (ps : List Pair) (i : ℕ) → length ps ≤ 64 → length ts % 3 ≡ 0 → (ordered ts ps ≡ Broken i) ↔ FirstToBreak ts ps i
+verdict-broken = broken-exactly
+
+-- Request 5: "A pair with one name twice is broken by the first token of that name"
+pub order-name-twice :
+    (ts : List ℕ) (x i : ℕ) → nameAt ts i ≡ x → ((j : ℕ) → j < i → ¬ (nameAt ts j ≡ x)) → Breaks ts (record { first = x; second = x }) i
+order-name-twice = name-twice
+
+-- Request 5: the order of the pairs, and a pair that is there twice, change nothing; nor do the offsets and lengths of the tokens
+pub order-same-pairs :
+    (ts : List ℕ) (ps qs : List Pair) → ((p : Pair) → Among p ps ↔ Among p qs) → length ps ≤ 64 → length qs ≤ 64 → ordered ts ps ≡ ordered ts qs
+order-same-pairs = same-pairs
+
+pub order-same-names :
+    (ts us : List ℕ) (ps : List Pair) → length ts ≡ length us → ((i : ℕ) → i < tokenCount ts → nameAt ts i ≡ nameAt us i)
+    → ordered ts ps ≡ ordered us ps
+order-same-names = same-names
+
+-- Request 5: a list that Tokens wrote is one of whole tokens, and the names in it are the tags
+pub order-takes-tokens : (xs : List Token) → (length (tokenBytes xs) % 3 ≡ 0) × (tokenCount (tokenBytes xs) ≡ length xs)
+order-takes-tokens = bytes-tokens
+
+pub order-takes-tags : (xs : List Token) (i : ℕ) → nameAt (tokenBytes xs) i ≡ getD (map (λ (x : Token). x .tag) xs) i 0
+order-takes-tags = bytes-names
 
 -- Beyond the demands: a table that passes may be lent up to its start record alone. It passes too, with the start record as its last, each call
 -- says and leaves the same by it, and Read needs no more work area

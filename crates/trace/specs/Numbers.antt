@@ -3,7 +3,12 @@
 use Prim.Native.Nat.{_≤_, _<_}
 use Rattle.table.specs.Answers.{Said, gives, refuses}
 
--- a result below 2^32, or one of the refusals 1 to 16 and a detail below 2^32
+-- a result of any size, or one of the refusals 1 to 18 and a detail below 2^32
+abbrev pub Encodable : Said → Type 0
+Encodable (gives n) = Unit {0}
+Encodable (refuses n d) = (1 ≤ n) × (n ≤ 18) × (d < 4294967296)
+
+-- a result below 2^32, or such a refusal
 abbrev pub Small : Said → Type 0
 Small (gives n) = n < 4294967296
-Small (refuses n d) = (1 ≤ n) × (n ≤ 16) × (d < 4294967296)
+Small (refuses n d) = Encodable (refuses n d)

@@ -1,4 +1,4 @@
-// The calls for C: numbers and byte slices in, one 64-bit number out.
+// The calls for C: numbers, byte slices and pairs of names in, one 64-bit number out.
 
 ghost use mathlib.Core.Path.{_≡_};
 ghost use Rattle.table.specs.Answers.{says, number};
@@ -12,7 +12,10 @@ ghost use Rattle.tokens.specs.Listed.{tokensSays, tokensLeaves};
 ghost use Rattle.matcher.specs.Calls.{readSays, readLeaves, keepsWork};
 ghost use Rattle.matcher.specs.Demands.{Setting, NoneOutranks};
 ghost use Rattle.notation.specs.Calls.{compileSays, compileLeaves};
-ghost use Rattle.trace.specs.Numbers.{Small};
+ghost use Rattle.order.specs.Verdicts.{verdictSays, orderSays};
+ghost use Rattle.trace.specs.Numbers.{Small, Encodable};
+use order::Pair;
+use order::Verdict;
 use table::Answer;
 
 // The result, or the refusal number times 2^32 plus the detail.
@@ -26,6 +29,18 @@ fn number_of(answer: Answer) -> u64
             let numbers = table::numbers_of(why);
             (numbers.number as u64) * 4294967296 + numbers.detail as u64
         }
+    }
+}
+
+// The same of a verdict.
+fn verdict_number(verdict: Verdict) -> u64
+    requires { ⌜ Encodable (verdictSays verdict) ⌝ }
+    ensures { λ r. ⌜ r ≡ number (verdictSays verdict) ⌝ }
+{
+    match verdict {
+        Verdict::Kept(n) => n as u64,
+        Verdict::Broken(i) => i as u64,
+        Verdict::Refused(why) => number_of(Answer::Refused(why)),
     }
 }
 
@@ -96,4 +111,12 @@ pub extern "C" fn trace_compile(text: &[u8], out: &mut [u8]) -> u64
     ensures buffer { λ r. ⌜ now (out .exit) ≡ compileLeaves (now (text .entry)) (now (out .entry)) ⌝ }
 {
     number_of(notation::compile(text, out))
+}
+
+// The order of tokens.
+#[no_mangle]
+pub extern "C" fn trace_order(tokens: &[u8], pairs: &[Pair]) -> u64
+    ensures { λ r. ⌜ r ≡ number (orderSays (now (tokens .entry)) (now (pairs .entry))) ⌝ }
+{
+    verdict_number(order::order(tokens, pairs))
 }

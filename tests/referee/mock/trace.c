@@ -480,3 +480,79 @@ uint64_t trace_compile(const uint8_t *text, size_t text_len, uint8_t *out, size_
     if (FAULT == 83 && out_len > 4 * c.count) out[4 * c.count] = 0;
     return c.count;
 }
+
+typedef struct { uint8_t first, second; } pair;
+
+/* Whether token i breaks the pair; seen has the names of the tokens before it. */
+static int breaks(const uint8_t *tokens, size_t count, size_t i, pair p, const uint8_t *seen) {
+    uint8_t name = tokens[3 * i + (FAULT == 99)];
+    if (FAULT == 96) p = (pair){p.second, p.first};
+    if (FAULT == 110 ? (name ^ p.second) & 127 : name != p.second) return 0;
+    switch (FAULT) {
+    case 84: return 0;
+    case 86:
+        for (size_t j = 0; j < count; j++) if (j != i && tokens[3 * j] == p.first) return 0;
+        return 1;
+    case 87: return p.first != p.second && !seen[p.first];
+    case 94: return i == 0 || tokens[3 * i - 3] != p.first;
+    case 100: return p.second != 0 && !seen[p.first];
+    case 101: return p.second != 255 && !seen[p.first];
+    case 109: return tokens[3 * i + 2] != 0 && !seen[p.first];
+    default: return !seen[p.first];
+    }
+}
+
+/* Fault 97: of the pairs with the token's name as their second one is kept. */
+static int keeps_one(const uint8_t *tokens, size_t count, size_t i, const pair *pairs, size_t n, const uint8_t *seen) {
+    for (size_t k = 0; k < n; k++) if (pairs[k].second == tokens[3 * i] && !breaks(tokens, count, i, pairs[k], seen)) return 1;
+    return 0;
+}
+
+static int is_second(uint8_t name, const pair *pairs, size_t n) {
+    for (size_t k = 0; k < n; k++) if (pairs[k].second == name) return 1;
+    return 0;
+}
+
+static uint64_t first_to_break(const uint8_t *tokens, size_t count, const pair *pairs, size_t n) {
+    uint8_t seen[256] = {0};
+    size_t found = count;
+    for (size_t i = 0; i + (FAULT == 103) < count; i++) {
+        int broken = 0;
+        for (size_t k = 0; k < n && !broken; k++) broken = breaks(tokens, count, i, pairs[k], seen);
+        if (FAULT == 97 && broken) broken = !keeps_one(tokens, count, i, pairs, n, seen);
+        if (FAULT == 102 && i == 0) broken = 0;
+        if (broken) found = i;
+        if (broken && FAULT != 85) break;
+        if (FAULT != 108 || !is_second(tokens[3 * i], pairs, n)) seen[tokens[3 * i + (FAULT == 99)]] = 1;
+    }
+    if (FAULT == 95 && found < count) return found + 1;
+    return FAULT == 111 ? (uint16_t)found : found;
+}
+
+__attribute__((noinline)) static uint64_t copied(const uint8_t *tokens, size_t count, const pair *pairs, size_t n) {
+    uint8_t *copy = __builtin_alloca(count * 3);
+    memcpy(copy, tokens, count * 3);
+    return first_to_break(copy, count, pairs, n);
+}
+
+uint64_t trace_order(const uint8_t *tokens, size_t tokens_len, const pair *pairs, size_t pairs_len) {
+    size_t count = tokens_len / 3, n = pairs_len, most = FAULT == 89 ? 65 : FAULT == 90 ? 63 : 64;
+    if (FAULT == 91 && tokens_len % 3) return refuse(18, 0);
+    if (pairs_len > most || (FAULT == 107 && !pairs_len)) return refuse(17, FAULT == 104 ? pairs_len : 0);
+    if ((tokens_len % 3 && FAULT != 92) || (FAULT == 106 && !tokens_len)) return refuse(18, FAULT == 105 ? tokens_len % 3 : 0);
+    if (FAULT == 88 && n) n = 1;
+    if (FAULT == 93 && n) n--;
+    if (FAULT == 112 && n > 32) n = 32;
+    if (FAULT == 113 && count && tokens[tokens_len] == 9) return 0;
+    if (FAULT == 114 && n && pairs[n].first == 9) return 0;
+    if (FAULT == 115) return copied(tokens, count, pairs, n);
+    if (FAULT == 116 && count) ((uint8_t *)tokens)[0] = 0;
+    if (FAULT == 98) {
+        for (size_t k = 0; k < n; k++) {
+            size_t found = first_to_break(tokens, count, pairs + k, 1);
+            if (found < count) return found;
+        }
+        return count;
+    }
+    return first_to_break(tokens, count, pairs, n);
+}

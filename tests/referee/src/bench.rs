@@ -1,6 +1,8 @@
 //! The lines on the bench of document 01: tables T1 to T4, cases A to J and
-//! the edges. And lines for Other, for empty tagged parts and for the notation,
-//! requests 1 to 3 of document 02.
+//! the edges. And lines for Other, for empty tagged parts, for the notation and
+//! for names that must come first, requests 1 to 3 and 5 of document 02.
+
+use crate::pairs::Pair;
 
 pub const T1: &[u8] = &[
     2, 0x61, 0x61, 1, 2, 0x61, 0x61, 0, 2, 0x62, 0x62, 0, 4, 1, 2, 2, 2, 0x62, 0x62, 0, 2, 0x63,
@@ -104,6 +106,7 @@ pub enum Request {
     Compare { table: Vec<u8>, start: u64, first: Vec<u8>, second: Vec<u8> },
     Tokens { table: Vec<u8>, start: u64, reading: Vec<u8> },
     Compile { text: Vec<u8> },
+    Order { tokens: Vec<u8>, pairs: Vec<Pair> },
 }
 
 fn read(name: &'static str, table: &[u8], line: &[u8], reading: &[u8]) -> Stated {
@@ -270,14 +273,54 @@ pub fn stated() -> Vec<Stated> {
         tokens("one iteration", STAR_FIRST, &[4, 0, 5, 1, 1, 0x61, 1, 0x62], &[1, 0, 1, 2, 1, 1]),
     ];
     lines.extend(texts);
+    lines.extend(orders());
     lines
+}
+
+/// Token lists by their names, lift 8 and brake 9, with pairs of names.
+fn orders() -> Vec<Stated> {
+    let order = |name, names: &[u8], over: usize, pairs: &[(u8, u8)], number| {
+        let mut tokens: Vec<u8> = names.iter().flat_map(|&name| [name, 9, 8]).collect();
+        tokens.extend([9, 9].iter().take(over));
+        let pairs = pairs.iter().map(|&(first, second)| Pair { first, second }).collect();
+        Stated { name, request: Request::Order { tokens, pairs }, number, written: vec![] }
+    };
+    let lift_before_brake = &[(8, 9)];
+    let mut last_broken = vec![(8, 9); 64];
+    last_broken[63] = (7, 10);
+    vec![
+        order("lift, brake", &[1, 8, 9], 0, lift_before_brake, 3),
+        order("brake alone", &[1, 9], 0, lift_before_brake, 1),
+        order("lift behind the brake", &[1, 9, 8], 0, lift_before_brake, 1),
+        order("lift alone", &[1, 8], 0, lift_before_brake, 2),
+        order("two brakes for one lift", &[8, 1, 9, 9], 0, lift_before_brake, 4),
+        order("neither", &[1, 2, 3], 0, lift_before_brake, 3),
+        order("no token", &[], 0, lift_before_brake, 0),
+        order("no pair", &[9, 9], 0, &[], 2),
+        order("no token and no pair", &[], 0, &[], 0),
+        order("one name twice", &[1, 8, 8], 0, &[(8, 8)], 1),
+        order("one name twice, which no token has", &[1, 9], 0, &[(8, 8)], 2),
+        order("a second name with two first names", &[1, 8, 9], 0, &[(8, 9), (7, 9)], 2),
+        order("the later pair by the earlier token", &[9, 10], 0, &[(1, 10), (8, 9)], 0),
+        order("each before the other", &[8, 9], 0, &[(8, 9), (9, 8)], 0),
+        order("a chain", &[7, 8, 9], 0, &[(8, 9), (7, 8)], 3),
+        order("names 0 and 255", &[0, 255], 0, &[(0, 255)], 2),
+        order("names 255 and 0", &[0, 255], 0, &[(255, 0)], 0),
+        order("64 pairs, the last broken", &[8, 9, 10], 0, &last_broken, 2),
+        order("65 pairs", &[8, 9], 0, &[(8, 9); 65], refusal(17)),
+        order("65 pairs and a byte over", &[8, 9], 1, &[(8, 9); 65], refusal(17)),
+        order("a byte over", &[8, 9], 1, lift_before_brake, refusal(18)),
+        order("two bytes over", &[8, 9], 2, lift_before_brake, refusal(18)),
+        order("a byte over, and broken", &[9], 1, lift_before_brake, refusal(18)),
+        order("a byte alone", &[], 1, &[], refusal(18)),
+    ]
 }
 
 #[cfg(test)]
 mod tests {
     use super::*;
     use crate::calls::{
-        trace_check, trace_compare, trace_compile, trace_spell, trace_tokens, Reader,
+        trace_check, trace_compare, trace_compile, trace_order, trace_spell, trace_tokens, Reader,
     };
     use crate::order::rank;
     use crate::random::{
@@ -309,6 +352,7 @@ mod tests {
                     trace_tokens(table, *start, reading, &mut out)
                 }
                 Request::Compile { text } => trace_compile(text, &mut out),
+                Request::Order { tokens, pairs } => trace_order(tokens, pairs),
             };
             let (front, rest) = out.split_at(case.written.len());
             assert_eq!(number, case.number, "{}", case.name);

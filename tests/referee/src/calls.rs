@@ -1,7 +1,9 @@
-//! The calls as document 01 and request 3 of document 02 state them, on slices.
+//! The calls as document 01 and requests 3 and 5 of document 02 state them, on
+//! slices.
 
 use crate::notation;
 use crate::order;
+use crate::pairs::{self, Pair};
 use crate::posix;
 use crate::relation;
 use crate::table::{check, pack, refuse, Refusal, Table};
@@ -113,6 +115,10 @@ pub fn trace_compile(text: &[u8], out: &mut [u8]) -> u64 {
     pack(compile(text, out))
 }
 
+pub fn trace_order(tokens: &[u8], pairs: &[Pair]) -> u64 {
+    pack(ordered(tokens, pairs))
+}
+
 /// Refusals 1 to 6, then 9.
 fn open(table: &[u8], start: u64) -> Result<(Table, usize), Refusal> {
     let table = check(table)?;
@@ -214,4 +220,15 @@ fn compile(text: &[u8], out: &mut [u8]) -> Result<u64, Refusal> {
     }
     put(&table.bytes(), out)?;
     Ok(m as u64)
+}
+
+fn ordered(tokens: &[u8], pairs: &[Pair]) -> Result<u64, Refusal> {
+    if pairs.len() > pairs::MOST {
+        return refuse(17, 0);
+    }
+    if !tokens.len().is_multiple_of(3) {
+        return refuse(18, 0);
+    }
+    let found = pairs::first_to_break(tokens, pairs);
+    Ok(found.unwrap_or(tokens.len() / 3) as u64)
 }

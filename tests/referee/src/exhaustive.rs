@@ -7,13 +7,13 @@ use referee::random::{all_lines, all_tables, star_nest};
 use referee::rivals::rivals;
 use referee::table::{Letter, Table};
 
-/// Cases A to J, the edges, Other and empty tagged parts, against stated
-/// answers.
+/// Cases A to J, the edges, Other, empty tagged parts, texts and pairs of
+/// names, against stated answers.
 pub fn bench(h: &mut Harness) {
     for case in stated() {
         h.from(format!("case {}", case.name));
         let out_len = match &case.request {
-            Request::Check { .. } | Request::Compare { .. } => 0,
+            Request::Check { .. } | Request::Compare { .. } | Request::Order { .. } => 0,
             _ => case.written.len() + 9,
         };
         h.put_stated(case.request.clone(), out_len, case.number, &case.written);

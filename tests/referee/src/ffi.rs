@@ -3,6 +3,7 @@
 
 use referee::bench::Request;
 use referee::calls::{self, Reader};
+use referee::pairs::Pair;
 
 extern "C" {
     fn trace_check(table: *const u8, table_len: usize) -> u64;
@@ -45,6 +46,12 @@ extern "C" {
         out_len: usize,
     ) -> u64;
     fn trace_compile(text: *const u8, text_len: usize, out: *mut u8, out_len: usize) -> u64;
+    fn trace_order(
+        tokens: *const u8,
+        tokens_len: usize,
+        pairs: *const Pair,
+        pairs_len: usize,
+    ) -> u64;
 }
 
 /// A request with the buffer lent for the answer and the pattern it holds.
@@ -146,6 +153,7 @@ fn expected(reader: &mut Reader, case: &Case, lending: Lending) -> (u64, Vec<u8>
             calls::trace_tokens(table, *start, reading, &mut out)
         }
         Request::Compile { text } => calls::trace_compile(text, &mut out),
+        Request::Order { tokens, pairs } => calls::trace_order(tokens, pairs),
     };
     (number, out)
 }
@@ -154,7 +162,7 @@ fn expected(reader: &mut Reader, case: &Case, lending: Lending) -> (u64, Vec<u8>
 pub fn answer(reader: &mut Reader, case: &Case) -> (u64, Vec<u8>) {
     let (number, mut out) = expected(reader, case, Lending::Guarded);
     let width = match &case.request {
-        Request::Check { .. } | Request::Compare { .. } => 0,
+        Request::Check { .. } | Request::Compare { .. } | Request::Order { .. } => 0,
         Request::Read { .. } => 2,
         Request::Spell { .. } => 1,
         Request::Tokens { .. } => 3,
@@ -235,6 +243,14 @@ fn ask(case: &Case, lending: Lending) -> (u64, Vec<u8>, Option<&'static str>) {
             let number = unsafe { trace_compile(t.as_ptr(), t.len(), out.pointer(), out.len()) };
             if t != *text {
                 fault = Some("the text was changed");
+            }
+            number
+        }
+        Request::Order { tokens, pairs } => {
+            let (t, p) = (tokens.clone(), pairs.clone());
+            let number = unsafe { trace_order(t.as_ptr(), t.len(), p.as_ptr(), p.len()) };
+            if t != *tokens || p != *pairs {
+                fault = Some("the tokens or the pairs were changed");
             }
             number
         }

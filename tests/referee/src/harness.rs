@@ -5,11 +5,12 @@ use crate::ffi::{self, Case, Lending};
 use crate::shrink::{hex, show, shrink};
 use referee::bench::Request;
 use referee::calls::Reader;
+use referee::pairs::Pair;
 use std::collections::BTreeMap;
 use std::time::Instant;
 
-/// The answers met: the call, the refusal number (0 for a result), and in
-/// Compare the result or the detail.
+/// The answers met: the call, the refusal number (0 for a result), in Compare
+/// the result or the detail, and in Order whether a pair was broken.
 type Met = BTreeMap<(&'static str, u64, u64), u64>;
 
 /// What each call can answer.
@@ -20,6 +21,7 @@ const ANSWERS: &[(&str, &[u64])] = &[
     ("tokens", &[0, 1, 2, 3, 4, 5, 6, 9, 11, 12, 13]),
     ("compare", &[0, 1, 2, 3, 4, 5, 6, 9, 12, 13, 14]),
     ("compile", &[0, 11, 15, 16]),
+    ("order", &[0, 17, 18]),
 ];
 
 pub struct Harness {
@@ -65,8 +67,8 @@ impl Harness {
         }
     }
 
-    /// The library against a known answer on a small stack, where the referee
-    /// itself isn't asked, not even after a failure.
+    /// The library against a known answer on a small stack or for a long list,
+    /// where the referee itself isn't asked, not even after a failure.
     pub fn put_known(&mut self, request: Request, out_len: usize, number: u64, written: &[u8]) {
         let case = self.case(request, out_len);
         if let Err(message) = ffi::against_written(&case, number, written, self.lending) {
@@ -99,7 +101,11 @@ impl Harness {
     fn meet(&mut self, request: &Request, number: u64) {
         let (refusal, rest) = (number >> 32, number & 0xffff_ffff);
         let call = call_name(request);
-        let rest = if call == "compare" && matches!(refusal, 0 | 12 | 13) { rest } else { 0 };
+        let rest = match (request, refusal) {
+            (Request::Compare { .. }, 0 | 12 | 13) => rest,
+            (Request::Order { tokens, .. }, 0) => u64::from(number < tokens.len() as u64 / 3),
+            _ => 0,
+        };
         *self.met.entry((call, refusal, rest)).or_default() += 1;
     }
 
@@ -111,7 +117,7 @@ impl Harness {
             for &refusal in refusals {
                 let kinds: &[u64] = match (call, refusal) {
                     ("compare", 0) => &[0, 1, 2],
-                    ("compare", 12 | 13) => &[0, 1],
+                    ("compare", 12 | 13) | ("order", 0) => &[0, 1],
                     _ => &[0],
                 };
                 for &rest in kinds {
@@ -157,6 +163,7 @@ fn call_name(request: &Request) -> &'static str {
         Request::Tokens { .. } => "tokens",
         Request::Compare { .. } => "compare",
         Request::Compile { .. } => "compile",
+        Request::Order { .. } => "order",
     }
 }
 
@@ -187,4 +194,8 @@ pub fn check(table: &[u8]) -> Request {
 
 pub fn compile(text: &[u8]) -> Request {
     Request::Compile { text: text.to_vec() }
+}
+
+pub fn order(tokens: &[u8], pairs: &[Pair]) -> Request {
+    Request::Order { tokens: tokens.to_vec(), pairs: pairs.to_vec() }
 }

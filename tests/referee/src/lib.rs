@@ -1,15 +1,17 @@
-//! A second implementation of document 01, with asks 1 to 3 of document 02,
-//! written from their text.
+//! A second implementation of document 01, with asks 1 to 3 and 5 of document
+//! 02, written from their text.
 //!
 //! Read is done twice: by derivatives with injection (`posix`) and by the
 //! rules of the relation with an automaton for the languages (`relation`).
-//! Compile is done by the spans of a text (`notation`).
+//! Compile is done by the spans of a text (`notation`), Order by looking back
+//! from each token (`pairs`).
 //! Nothing here calls the library under test.
 
 pub mod bench;
 pub mod calls;
 pub mod notation;
 pub mod order;
+pub mod pairs;
 pub mod posix;
 pub mod random;
 pub mod relation;

@@ -3,12 +3,14 @@
 //! referee gate                 all small cases, and random ones of a fixed seed
 //! referee soak SECONDS [SEED]  random rounds until the time is up
 //! referee notation             the part of the gate on Compile
+//! referee order                the part of the gate on Order
 //! referee stack                deepest nestings on a stack of 1 MiB
 //! referee memcheck             exactly sized buffers, for valgrind
 
 mod exhaustive;
 mod ffi;
 mod harness;
+mod lists;
 mod memcheck;
 mod sampled;
 mod shrink;
@@ -28,6 +30,7 @@ type Round = (&'static str, fn(&mut Harness, &mut Rng, Size));
 
 const TABLE: Round = ("table", sampled::round);
 const TEXT: Round = ("text", texts::round);
+const LIST: Round = ("list", lists::round);
 
 /// So many rounds, each from a seed of its own.
 fn rounds(h: &mut Harness, round: Round, size: Size, seed: u64, count: u64) {
@@ -61,6 +64,7 @@ fn gate() -> bool {
     rounds(&mut h, TABLE, Size::Long, GATE_SEED, 16);
     h.done("random tables of up to 255 records");
     notation(&mut h);
+    order(&mut h);
     h.coverage()
 }
 
@@ -85,6 +89,26 @@ fn notation(h: &mut Harness) {
     h.done("random texts of up to 4,099 bytes");
 }
 
+fn order(h: &mut Harness) {
+    h.from("every two names");
+    lists::names(h);
+    h.done("every two names of tokens");
+    h.from("all short lists");
+    lists::all(h, &lists::NAMES[..3], 6, 3);
+    lists::all(h, lists::NAMES, 5, 2);
+    h.done("all lists of up to 6 tokens and up to 3 pairs");
+    lists::counts(h);
+    h.done("pairs of every number");
+    lists::lengths(h);
+    h.done("lists of up to 1,000,000 tokens");
+    rounds(h, LIST, Size::Small, GATE_SEED, 10_000);
+    h.done("random short lists");
+    rounds(h, LIST, Size::Medium, GATE_SEED, 1000);
+    h.done("random lists of up to 300 tokens");
+    rounds(h, LIST, Size::Long, GATE_SEED, 60);
+    h.done("random lists of up to 1,000 tokens");
+}
+
 fn soak(seconds: u64, seed: u64) {
     let end = Instant::now() + Duration::from_secs(seconds);
     let mut h = Harness::new(Lending::Guarded);
@@ -97,6 +121,7 @@ fn soak(seconds: u64, seed: u64) {
         };
         one_round(&mut h, TABLE, size, seed, i);
         one_round(&mut h, TEXT, size, seed, i);
+        one_round(&mut h, LIST, size, seed, i);
         i += 1;
     }
     h.done(&format!("soak, {i} rounds of seed {seed}"));
@@ -109,6 +134,7 @@ fn run(arguments: &[String]) -> bool {
         ["gate"] if !gate() => std::process::exit(1),
         ["gate"] => {}
         ["notation"] => notation(&mut Harness::new(Lending::Guarded)),
+        ["order"] => order(&mut Harness::new(Lending::Guarded)),
         ["stack"] => stack::run(),
         ["memcheck"] => memcheck::run(),
         ["soak", seconds] => match number(seconds) {
@@ -131,7 +157,9 @@ fn main() {
     match thread.expect("a thread").join() {
         Ok(true) => {}
         Ok(false) => {
-            eprintln!("usage: referee gate | soak SECONDS [SEED] | notation | stack | memcheck");
+            eprintln!(
+                "usage: referee gate | soak SECONDS [SEED] | notation | order | stack | memcheck"
+            );
             std::process::exit(2);
         }
         Err(_) => std::process::exit(1),

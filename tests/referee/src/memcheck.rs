@@ -4,6 +4,7 @@
 use crate::exhaustive;
 use crate::ffi::Lending;
 use crate::harness::Harness;
+use crate::lists;
 use crate::sampled::{round, Size};
 use crate::texts;
 use referee::random::Rng;
@@ -26,4 +27,11 @@ pub fn run() {
         texts::round(&mut h, &mut rng, if i == 23 { Size::Long } else { size });
     }
     h.done("memory, random texts");
+    lists::torn(&mut h);
+    h.done("memory, torn lists");
+    for i in 0..24 {
+        h.from(format!("memory, list round {i}"));
+        lists::round(&mut h, &mut rng, if i % 8 == 7 { Size::Medium } else { Size::Small });
+    }
+    h.done("memory, random lists");
 }

@@ -1,6 +1,7 @@
-//! Random tables, readings, lines and damages from a fixed seed.
+//! Random tables, readings, lines, token lists and damages from a fixed seed.
 
 use crate::notation::SPECIAL;
+use crate::pairs::{names, Pair};
 use crate::relation;
 use crate::table::{check, Kind, Letter, Record, Table};
 use crate::value::Value;
@@ -557,4 +558,56 @@ pub fn star_nest(letter: Letter, records: usize, tag: u8) -> Table {
     let mut list = vec![Record { kind: Kind::Letter(letter), tag }];
     list.extend((1..records).map(|k| Record { kind: Kind::Star(k - 1), tag: 0 }));
     Table { records: list }
+}
+
+/// Up to so many tokens, of a few names or of many. Offsets and lengths are any
+/// bytes, and often a name.
+pub fn token_list(rng: &mut Rng, most: usize) -> Vec<u8> {
+    let few: Vec<u8> = (0..rng.choose(&[1, 2, 3, 5, 16, 64, 600])).map(|_| rng.byte()).collect();
+    let count = rng.below(most + 1);
+    (0..count).flat_map(|_| [rng.choose(&few), rng.choose(&few), rng.byte()]).collect()
+}
+
+/// Pairs for a token list: such as it keeps, the same with one broken in the
+/// place of another, and any pairs.
+pub fn pair_lists(rng: &mut Rng, tokens: &[u8]) -> Vec<Vec<Pair>> {
+    let mut met: Vec<u8> = Vec::new();
+    for name in names(tokens) {
+        if !met.contains(&name) {
+            met.push(name);
+        }
+    }
+    let absent: Vec<u8> = (0..=255).filter(|name| !met.contains(name)).collect();
+    let some = rng.below(65);
+    let count = rng.choose(&[0, 1, 2, 3, 8, 63, 64, some]);
+    let kept: Vec<Pair> = (0..count).map(|_| kept_pair(rng, &met, &absent)).collect();
+    let mut lists = vec![kept.clone()];
+    if count > 0 && !met.is_empty() {
+        for _ in 0..2 {
+            let mut broken = kept.clone();
+            broken[rng.below(count)] = broken_pair(rng, &met, &absent);
+            lists.push(broken);
+        }
+    }
+    lists.push((0..count).map(|_| Pair { first: rng.byte(), second: rng.byte() }).collect());
+    lists
+}
+
+/// A pair that a list keeps: by the names in the order in which they are met,
+/// or with a second name that no token has.
+fn kept_pair(rng: &mut Rng, met: &[u8], absent: &[u8]) -> Pair {
+    if met.len() > 1 && (absent.is_empty() || !rng.once_in(6)) {
+        let second = 1 + rng.below(met.len() - 1);
+        return Pair { first: met[rng.below(second)], second: met[second] };
+    }
+    Pair { first: rng.byte(), second: rng.choose(absent) }
+}
+
+/// A pair that a list breaks: the first name is met later, or it is the second
+/// name too, or no token has it.
+fn broken_pair(rng: &mut Rng, met: &[u8], absent: &[u8]) -> Pair {
+    let second = rng.below(met.len());
+    let later = met[second + rng.below(met.len() - second)];
+    let first = if rng.once_in(3) && !absent.is_empty() { rng.choose(absent) } else { later };
+    Pair { first, second: met[second] }
 }

@@ -4,6 +4,7 @@ use crate::ffi::Case;
 use crate::harness;
 use referee::bench::Request;
 use referee::calls::work_need;
+use referee::pairs::Pair;
 use referee::random::{all_lines, all_tables};
 use referee::rivals::rivals;
 use referee::table::{check, Kind, Letter, Record, Table};
@@ -33,7 +34,7 @@ pub fn shrink(case: &Case, fails: &mut dyn FnMut(&Case) -> bool) -> Case {
 /// Goes through small tables, lines and rivals for a case of the same call
 /// that fails and is smaller than the given one.
 fn search(case: &Case, fails: &mut dyn FnMut(&Case) -> bool) -> Option<Case> {
-    if let Request::Compile { .. } = case.request {
+    if let Request::Compile { .. } | Request::Order { .. } = case.request {
         return None;
     }
     let limit = Instant::now() + Duration::from_secs(10);
@@ -71,7 +72,7 @@ fn small_requests(case: &Case, table: &Table, line: &[u8]) -> Vec<Request> {
     let (bytes, start) = (table.bytes(), k as u64);
     let all: Vec<Vec<u8>> = rivals(table, k, line).iter().map(|v| v.reading()).collect();
     match &case.request {
-        Request::Check { .. } | Request::Compile { .. } => vec![],
+        Request::Check { .. } | Request::Compile { .. } | Request::Order { .. } => vec![],
         Request::Read { .. } => {
             vec![harness::read(&bytes, start, line, work_need(k + 1, line.len()))]
         }
@@ -96,6 +97,7 @@ fn weight(case: &Case) -> (usize, usize, usize, usize) {
         }
         Request::Compare { table, first, second, .. } => (table, first.len() + second.len(), 0),
         Request::Compile { text } => (&vec![], text.len(), 0),
+        Request::Order { tokens, pairs } => (&vec![], tokens.len() + 2 * pairs.len(), 0),
     };
     let plain = table.chunks(4).map(|r| usize::from(r[0] > 2) + usize::from(r.last() != Some(&0)));
     (table.len() + bytes, plain.sum(), work, case.out_len)
@@ -112,6 +114,10 @@ fn parts(case: &Case) -> (Vec<u8>, u64, Vec<Vec<u8>>) {
             (table.clone(), *start, vec![first.clone(), second.clone()])
         }
         Request::Compile { text } => (vec![], 0, vec![text.clone()]),
+        Request::Order { tokens, pairs } => {
+            let bytes = pairs.iter().flat_map(|pair| [pair.first, pair.second]).collect();
+            (vec![], 0, vec![tokens.clone(), bytes])
+        }
     }
 }
 
@@ -138,6 +144,11 @@ fn with(case: &Case, table: Vec<u8>, start: u64, mut lists: Vec<Vec<u8>>) -> Cas
             Request::Compare { table, start, first: lists.remove(0), second }
         }
         Request::Compile { .. } => Request::Compile { text: lists.remove(0) },
+        Request::Order { .. } => {
+            let bytes = lists.remove(1);
+            let pairs = bytes.chunks_exact(2).map(|two| Pair { first: two[0], second: two[1] });
+            Request::Order { tokens: lists.remove(0), pairs: pairs.collect() }
+        }
     };
     Case { request, ..case.clone() }
 }
@@ -339,12 +350,13 @@ pub fn show(case: &Case) -> String {
         Request::Tokens { .. } => ("tokens", &["reading"]),
         Request::Compare { .. } => ("compare", &["first", "second"]),
         Request::Compile { .. } => ("compile", &["text"]),
+        Request::Order { .. } => ("order", &["tokens", "pairs"]),
     };
     let mut text = format!("call    {call}\n");
-    if call != "compile" {
+    if !matches!(call, "compile" | "order") {
         text += &format!("table   {}\n", hex(&table));
     }
-    if !matches!(call, "check" | "compile") {
+    if !matches!(call, "check" | "compile" | "order") {
         text += &format!("start   {start}\n");
     }
     for (name, bytes) in names.iter().zip(&lists) {
@@ -356,7 +368,7 @@ pub fn show(case: &Case) -> String {
     if let Request::Compile { text: bytes } = &case.request {
         text += &format!("as text {}\n", bytes.escape_ascii());
     }
-    if !matches!(call, "check" | "compare") {
+    if !matches!(call, "check" | "compare" | "order") {
         text += &format!("buffer  {} bytes\n", case.out_len);
     }
     text

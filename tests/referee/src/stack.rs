@@ -1,11 +1,13 @@
-//! The deepest nestings and the longest readings of each call, on a thread of
-//! 1 MiB stack. The answers are known in closed form; the readings are built
-//! without recursion, so the thread's stack is the library's.
+//! The deepest nestings, the longest readings and the longest token lists of
+//! each call, on a thread of 1 MiB stack. The answers are known in closed form;
+//! the readings are built without recursion, so the thread's stack is the
+//! library's.
 
 use crate::ffi::Lending;
-use crate::harness::{check, compare, compile, read, spell, tokens, Harness};
+use crate::harness::{check, compare, compile, order, read, spell, tokens, Harness};
 use referee::bench::refusal;
 use referee::calls::work_need;
+use referee::pairs::{Pair, MOST};
 use referee::random::star_nest;
 use referee::table::{Kind, Letter, Record, Table};
 
@@ -313,14 +315,32 @@ fn parentheses(h: &mut Harness) {
     }
 }
 
+/// Lists of every name over and over, and pairs of which each second name is met
+/// behind its first.
+fn token_lists(h: &mut Harness) {
+    h.from("4,000,000 tokens and 64 pairs");
+    let mut tokens: Vec<u8> = (0..=255).flat_map(|name| [name, 0, 1]).collect();
+    tokens = tokens.repeat(15_625);
+    let mut pairs: Vec<Pair> =
+        (0..).map(|i| Pair { first: i, second: 255 - i }).take(MOST).collect();
+    let count = tokens.len() as u64 / 3;
+    h.put_known(order(&tokens, &pairs), 0, count, &[]);
+    pairs[MOST - 1] = Pair { first: 255, second: 254 };
+    h.put_known(order(&tokens, &pairs), 0, 254, &[]);
+    h.put_known(order(&tokens[1..], &pairs), 0, refusal(18), &[]);
+    pairs.push(pairs[0]);
+    h.put_known(order(&tokens, &pairs), 0, refusal(17), &[]);
+}
+
 pub fn run() {
     type Part = fn(&mut Harness);
-    let parts: [(&str, Part); 5] = [
+    let parts: [(&str, Part); 6] = [
         ("stack of 1 MiB, nests of Stars", stars),
         ("stack of 1 MiB, readings of over 10 MB", millions),
         ("stack of 1 MiB, combs of Or and Seq", combs),
         ("stack of 1 MiB, empty tagged parts", empties),
         ("stack of 1 MiB, texts of up to 4,097 bytes", parentheses),
+        ("stack of 1 MiB, lists of 4,000,000 tokens", token_lists),
     ];
     for (name, part) in parts {
         let thread = std::thread::Builder::new().stack_size(STACK).spawn(move || {

@@ -52,6 +52,12 @@ enum-told-7 c = c .match .keys15
 enum-told-8 : tie.Need-enum-told-8
 enum-told-8 c = c .match .keys16
 
+enum-told-9 : tie.Need-enum-told-9
+enum-told-9 c = c .match .keys17
+
+enum-told-10 : tie.Need-enum-told-10
+enum-told-10 c = c .match .keys18
+
 returns : tie.Need-returns
 returns c = ap refusal (sym (c .enum-told .given .1))
 
@@ -100,6 +106,12 @@ returns-15 c = ap refusal (sym (c .enum-told7 .given .1))
 returns-16 : tie.Need-returns-16
 returns-16 c = ap refusal (sym (c .enum-told8 .given .1))
 
+returns-17 : tie.Need-returns-17
+returns-17 c = ap refusal (sym (c .enum-told9 .given .1))
+
+returns-18 : tie.Need-returns-18
+returns-18 c = ap refusal (sym (c .enum-told10 .given .1))
+
 pub numbers-of-spec : {M : Type 1} → statement M
 numbers-of-spec =
     tie.close
@@ -120,6 +132,8 @@ numbers-of-spec =
     enum-told-6
     enum-told-7
     enum-told-8
+    enum-told-9
+    enum-told-10
     returns
     returns-2
     returns-3
@@ -135,4 +149,6 @@ numbers-of-spec =
     returns-13
     returns-14
     returns-15
-    returns-16)
+    returns-16
+    returns-17
+    returns-18)
