@@ -73,12 +73,16 @@ max-one x y e = go (ltb x y) refl
     go true h = inr (sym (max-eq-right (omega (arith, ltb-true x y h))) ∙ e)
     go false h = inl (sym (max-eq-left (ltb-false x y h)) ∙ e)
 
-pub or-bit : (a b k : ℕ) → bitOr a b / 2 ^ k % 2 ≡ 1 → (a / 2 ^ k % 2 ≡ 1) ⊎ (b / 2 ^ k % 2 ≡ 1)
+or-bit : (a b k : ℕ) → bitOr a b / 2 ^ k % 2 ≡ 1 → (a / 2 ^ k % 2 ≡ 1) ⊎ (b / 2 ^ k % 2 ≡ 1)
 or-bit a b k e = max-one (a / 2 ^ k % 2) (b / 2 ^ k % 2) (sym (bit-or a b k) ∙ e)
 
 -- 1 << k has no other bit
 one-bit-only : (k j : ℕ) → k < 64 → 1 * 2 ^ k % 2 ^ 64 / 2 ^ j % 2 ≡ 1 → j ≡ k
-one-bit-only k j h e = ⊎-elim (λ (l : j < k). absurd (lower l)) (λ (l : k ≤ j). ⊎-elim (λ (m : k < j). absurd (higher m)) (λ (m : j ≤ k). omega arith) (below-or k j)) (below-or j k)
+one-bit-only k j h e =
+    ⊎-elim
+    (λ (l : j < k). absurd (lower l))
+    (λ (l : k ≤ j). ⊎-elim (λ (m : k < j). absurd (higher m)) (λ (m : j ≤ k). omega arith) (below-or k j))
+    (below-or j k)
   where
     exact : 1 * 2 ^ k % 2 ^ 64 ≡ 1 * 2 ^ k
     exact = shl-exact 1 k 64 (lit< tt) (omega arith)

@@ -29,7 +29,7 @@ pub struct Names {
     pub seconds: [u8; 64],
 }
 
-// How many pairs of a list of so many are walked: none of a list that is refused.
+// How many pairs of a list of so many are walked: none if there are over 64.
 fn walked(count: usize) -> usize
     ensures { λ r. ⌜ r ≡ walkedOf count ⌝ }
 {
