@@ -1,5 +1,5 @@
 .PHONY: all lib shared install uninstall install-files test outside outside-tests lacks tools example edges header program rules guide demo \
-        installed loaded manual pages referee-own referee-gate referee-stack referee-memory doubt soak bench
+        installed loaded manual pages referee-own referee-gate referee-stack referee-memory doubt soak bench bench-against
 
 SHELL = bash
 .SHELLFLAGS = -o pipefail -c
@@ -104,8 +104,8 @@ demo:
 
 # The examples in C, compiled without a warning, and what they must print.
 example: $(LIB) | $(BUILD)
-	@for name in commission rules; do $(CC) -std=c99 $(CFLAGS) examples/$$name.c $(LIB) -o $(BUILD)/$$name || exit 1; done
-	@bash tests/example.sh $(BUILD)/commission $(BUILD)/rules
+	@for name in commission rules parts; do $(CC) -std=c99 $(CFLAGS) examples/$$name.c $(LIB) -o $(BUILD)/$$name || exit 1; done
+	@bash tests/example.sh $(BUILD)
 
 # Every refusal at its edge, through the calls for C.
 edges: $(LIB) | $(BUILD)
@@ -189,3 +189,7 @@ soak: lib $(REFEREE)
 # over the names: times and ratios, in one run.
 bench: lib
 	@bash bench/run.sh
+
+# This library against that of another folder with a clone, where it is built, in one run: make bench-against OTHER=../other
+bench-against: lib
+	@bash bench/against.sh $(OTHER)

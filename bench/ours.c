@@ -24,14 +24,14 @@ static void read_line(void *arg)
     answer = trace_read(load.table, 4 * load.records, start, (const uint8_t *)load.line, load.line_len, work, work_len, reading,
                         reading_len);
     if (!trace_is_refused(answer))
-        answer = trace_tokens(load.table, 4 * load.records, start, reading, 2 * (size_t)answer, tokens, tokens_len);
+        answer = trace_tokens(load.table, 4 * load.records, start, reading, TRACE_READING_RECORD * (size_t)answer, tokens, tokens_len);
 }
 
 /* Each call by itself, on the reading of the line, or on its tokens. */
 static size_t read_records, token_count;
 static trace_pair pairs[TRACE_MAX_PAIRS];
 #define TABLE load.table, 4 * load.records
-#define READING reading, 2 * read_records
+#define READING reading, TRACE_READING_RECORD * read_records
 
 static void only_check(void *arg)
 {

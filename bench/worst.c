@@ -182,7 +182,8 @@ static void read_line(void *arg)
     (void)arg;
     answer = trace_read(table, 4 * records, records - 1, line, sizeof line, work, work_len, reading, reading_len);
     if (!trace_is_refused(answer))
-        answer = trace_tokens(table, 4 * records, records - 1, reading, 2 * (size_t)answer, tokens, sizeof tokens);
+        answer = trace_tokens(table, 4 * records, records - 1, reading, TRACE_READING_RECORD * (size_t)answer, tokens,
+                              sizeof tokens);
 }
 
 struct candidate {

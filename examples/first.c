@@ -10,7 +10,7 @@ int main(void)
         TRACE_SEQ, 1, 2, 0,       /* 3: digits, then C */
     };
     const char *line = "29C";
-    uint8_t work[40], reading[24], tokens[9]; /* by trace_work_size(4, 3) and its like */
+    uint8_t work[40], reading[48], tokens[9]; /* by trace_work_size(4, 3) and its like */
     uint64_t answer = trace_read(table, sizeof table, 3, (const uint8_t *)line, 3,
                                  work, sizeof work, reading, sizeof reading);
     if (!trace_is_refused(answer))

@@ -27,9 +27,9 @@
 extern "C" {
 #endif
 
-/* The version, as numbers and as text ("2.2.0"). Another major number says that a format or a call's result has changed. */
-#define TRACE_VERSION_MAJOR 2
-#define TRACE_VERSION_MINOR 2
+/* The version, as numbers and as text ("3.0.0"). Another major number says that a format or a call's result has changed. */
+#define TRACE_VERSION_MAJOR 3
+#define TRACE_VERSION_MINOR 0
 #define TRACE_VERSION_PATCH 0
 #define TRACE_TEXT_OF(macro) TRACE_TEXT(macro)
 #define TRACE_TEXT(word) #word
@@ -42,7 +42,7 @@ extern "C" {
 #define TRACE_MAX_TABLE 1020      /* bytes of a table; a buffer of these is always long enough for trace_compile */
 #define TRACE_MAX_PAIRS 64        /* pairs for trace_order */
 #define TRACE_TABLE_RECORD 4      /* kind, a, b, tag */
-#define TRACE_READING_RECORD 2    /* kind, argument */
+#define TRACE_READING_RECORD 4    /* kind, argument, bytes spelled, number of the table record */
 #define TRACE_TOKEN 3             /* tag, offset in the line, length */
 
 /*
@@ -67,6 +67,21 @@ extern "C" {
 #define TRACE_OTHER 6             /* one byte below a or above b */
 
 /*
+ * A reading: records of kind, argument, bytes spelled and record number, each parent before its children.
+ *
+ * The third byte is the length of the record's part in bytes, the fourth the number of the table record that reads it. The first record is the
+ * whole line's, with the start number. A part begins in the line behind as many bytes as there are Byte records before its own.
+ *
+ * The calls that take a reading refuse one with a length or a number that is not the true one.
+ */
+#define TRACE_READING_VOID 0      /* the empty line, by an Empty */
+#define TRACE_READING_BYTE 1      /* the byte that is the argument, by a Range or an Other */
+#define TRACE_READING_LEFT 2      /* of an Or; followed by a reading of its record a */
+#define TRACE_READING_RIGHT 3     /* of an Or; followed by a reading of its record b */
+#define TRACE_READING_SEQ 4       /* of a Seq; followed by a reading of its record a and one of b */
+#define TRACE_READING_STARS 5     /* of a Star; followed by as many readings of its record a as the argument says */
+
+/*
  * Refusals. The detail is 0 unless stated.
  * The rule author's: the table is wrong; the detail of 2 to 6 is the record's number.
  */
@@ -83,9 +98,9 @@ extern "C" {
 #define TRACE_REFUSED_START 9     /* start number not below the record count */
 #define TRACE_REFUSED_WORK 10     /* work area shorter than trace_work_size */
 #define TRACE_REFUSED_BUFFER 11   /* output buffer too short; the detail is the bytes needed */
-/* The reading's. In trace_compare the detail of 12 and 13 is 0 for the first reading and 1 for the second. */
-#define TRACE_REFUSED_UNFIT 12    /* the bytes are no reading of the start record */
-#define TRACE_REFUSED_LONG 13     /* the reading spells over 255 bytes */
+/* The reading's. In trace_compare the detail of 12 is 0 for the first reading and 1 for the second. */
+#define TRACE_REFUSED_UNFIT 12    /* the bytes are no reading of the start record, or a length or record number in them is not the true one */
+#define TRACE_REFUSED_LONG 13     /* no longer given: a reading that spells over 255 bytes has a length that cannot be written, and is 12 */
 #define TRACE_REFUSED_DIFFER 14   /* the two readings spell different lines */
 /* The text's. */
 #define TRACE_REFUSED_TEXT 15     /* text outside the notation, or over 4,096 bytes */
@@ -116,7 +131,7 @@ static inline const char *trace_refusal_text(uint32_t refusal)
     case TRACE_REFUSED_WORK: return "the work area is too short";
     case TRACE_REFUSED_BUFFER: return "the output buffer is too short";
     case TRACE_REFUSED_UNFIT: return "the bytes are no reading of the start record";
-    case TRACE_REFUSED_LONG: return "the reading spells over 255 bytes";
+    case TRACE_REFUSED_LONG: return "no longer given: a reading that spells over 255 bytes is no reading of the start record";
     case TRACE_REFUSED_DIFFER: return "the two readings spell different lines";
     case TRACE_REFUSED_TEXT: return "the text is outside the notation, or over 4,096 bytes long";
     case TRACE_REFUSED_RECORDS: return "the text's table has over 255 records";
@@ -147,7 +162,7 @@ uint64_t trace_check(const uint8_t *table, size_t table_len);
 
 /*
  * Reads a line by the record with number start: writes the POSIX reading to the front of out and leaves the later bytes as they were.
- * Result: the reading's number of records, 2 bytes each. Refusals, in this order: 1 to 6, 9, 7, 10, 8, 11; a refusal leaves out as it
+ * Result: the reading's number of records, 4 bytes each. Refusals, in this order: 1 to 6, 9, 7, 10, 8, 11; a refusal leaves out as it
  * was. The work area is untouched by 1 to 7, 9 and 10; its content is free after anything else.
  */
 uint64_t trace_read(const uint8_t *table, size_t table_len, uint64_t start, const uint8_t *line, size_t line_len, uint8_t *work,
@@ -155,22 +170,22 @@ uint64_t trace_read(const uint8_t *table, size_t table_len, uint64_t start, cons
 
 /*
  * Spells a reading: writes the line that it stands for to the front of out and leaves the later bytes. Result: the line's length.
- * Refusals, in this order: 1 to 6, 9, 12, 13, 11; a refusal leaves out as it was.
+ * Refusals, in this order: 1 to 6, 9, 12, 11; a refusal leaves out as it was.
  */
 uint64_t trace_spell(const uint8_t *table, size_t table_len, uint64_t start, const uint8_t *reading, size_t reading_len, uint8_t *out,
                      size_t out_len);
 
 /*
  * Compares two readings of one line. Result: 1 if the first ranks ahead, 2 if the second does, 0 if their bytes are the same.
- * Refusals, in this order: 1 to 6, 9, 12 first, 12 second, 13 first, 13 second, 14.
+ * Refusals, in this order: 1 to 6, 9, 12 first, 12 second, 14.
  */
 uint64_t trace_compare(const uint8_t *table, size_t table_len, uint64_t start, const uint8_t *first, size_t first_len,
                        const uint8_t *second, size_t second_len);
 
 /*
  * Lists the tokens of a reading: for each outermost tagged part of at least one byte 3 bytes (tag, offset in the line, length) to the front
- * of out; the later bytes are left. Result: the number of tokens. Refusals, in this order: 1 to 6, 9, 12, 13, 11; a refusal leaves out as
- * it was.
+ * of out; the later bytes are left. Result: the number of tokens. Refusals, in this order: 1 to 6, 9, 12, 11; a refusal leaves out as it
+ * was.
  */
 uint64_t trace_tokens(const uint8_t *table, size_t table_len, uint64_t start, const uint8_t *reading, size_t reading_len, uint8_t *out,
                       size_t out_len);

@@ -1,7 +1,7 @@
 /*
  * Every refusal of Read, Spell, Compare, Tokens, Compile and Order at its edge, with the answers that documents 01 and 02 state; buffers are
- * compared byte for byte. Other at its bounds. Empty tagged parts, which are no tokens. Names that must come first. And null pointers with length
- * 0, in all seven calls.
+ * compared byte for byte. Readings with every wrong length and record number. Other at its bounds. Empty tagged parts, which are no tokens. Names
+ * that must come first. And null pointers with length 0, in all seven calls.
  * Prints the number of answers, or the first one that is wrong.
  */
 #include <stdio.h>
@@ -15,6 +15,8 @@
 
 typedef struct { const uint8_t *at; size_t length; } Bytes;
 #define BYTES(...) ((Bytes){(const uint8_t[]){__VA_ARGS__}, sizeof((const uint8_t[]){__VA_ARGS__})})
+/* A record of a reading. */
+#define R(kind, argument, spelled, number) kind, argument, spelled, number
 static const uint8_t none[1];
 static const Bytes empty = {none, 0};
 
@@ -64,7 +66,7 @@ static void compare(const char *name, Bytes table, uint64_t start, Bytes first, 
 static void read(const char *name, Bytes table, uint64_t start, Bytes line, size_t work_room, size_t room, uint64_t want, Bytes front, int kept)
 {
     static uint8_t work[200000];
-    uint8_t out[1024];
+    uint8_t out[2048];
     memset(work, 0xdd, sizeof work);
     memset(out, 0xee, sizeof out);
     expect(name, trace_read(table.at, table.length, start, line.at, line.length, work, work_room, out, room), want);
@@ -74,6 +76,41 @@ static void read(const char *name, Bytes table, uint64_t start, Bytes line, size
             printf("edges: %s: byte %zu of the work area\n", name, i);
             exit(1);
         }
+}
+
+/* A reading that does not fit, in each call; the other one fits. */
+static void unfit(const char *name, Bytes table, uint64_t start, Bytes reading, Bytes fits)
+{
+    spell(name, table, start, reading, 1024, REFUSED(12, 0), empty);
+    spell(name, table, start, reading, 0, REFUSED(12, 0), empty);
+    tokens(name, table, start, reading, 1024, REFUSED(12, 0), empty);
+    tokens(name, table, start, reading, 0, REFUSED(12, 0), empty);
+    compare(name, table, start, reading, fits, REFUSED(12, 0));
+    compare(name, table, start, fits, reading, REFUSED(12, 1));
+    compare(name, table, start, reading, reading, REFUSED(12, 0));
+}
+
+/*
+ * A reading that fits, with each byte but the argument of a Byte changed to every other value; cut at each of its bytes; and with up to four bytes
+ * more. None of these fits.
+ */
+static void damaged(const char *name, Bytes table, uint64_t start, Bytes reading)
+{
+    uint8_t bytes[256];
+    memcpy(bytes, reading.at, reading.length);
+    compare(name, table, start, reading, (Bytes){bytes, reading.length}, 0);
+    for (size_t i = 0; i < reading.length; i++)
+        for (int more = 1; more < 256 && !(i % TRACE_READING_RECORD == 1 && bytes[i - 1] == 1); more++) {
+            bytes[i] = (uint8_t)(reading.at[i] + more);
+            unfit(name, table, start, (Bytes){bytes, reading.length}, reading);
+            bytes[i] = reading.at[i];
+        }
+    for (size_t i = 0; i < reading.length; i++)
+        unfit(name, table, start, (Bytes){bytes, i}, reading);
+    for (size_t i = 0; i < TRACE_READING_RECORD; i++) {
+        bytes[reading.length + i] = reading.at[reading.length - TRACE_READING_RECORD + i];
+        unfit(name, table, start, (Bytes){bytes, reading.length + i + 1}, reading);
+    }
 }
 
 /* A table that is written must pass the check with as many records. */
@@ -173,15 +210,15 @@ static void ordered(const char *name, Bytes text, Bytes line, Bytes list, Pairs 
 static void letter(const char *name, Bytes table, Bytes held, Bytes missed)
 {
     expect(name, trace_check(table.at, table.length), 1);
-    read(name, table, 0, empty, 1, 2, REFUSED(8, 0), empty, 0);
+    read(name, table, 0, empty, 1, 4, REFUSED(8, 0), empty, 0);
     for (size_t i = 0; i < held.length; i++) {
-        Bytes line = BYTES(held.at[i]), reading = BYTES(1, held.at[i]);
-        read(name, table, 0, line, 3, 2, 1, reading, 0);
+        Bytes line = BYTES(held.at[i]), reading = BYTES(R(1, held.at[i], 1, 0));
+        read(name, table, 0, line, 3, 4, 1, reading, 0);
         spell(name, table, 0, reading, 1, 1, line);
     }
     for (size_t i = 0; i < missed.length; i++) {
-        read(name, table, 0, BYTES(missed.at[i]), 3, 2, REFUSED(8, 0), empty, 0);
-        spell(name, table, 0, BYTES(1, missed.at[i]), 1, REFUSED(12, 0), empty);
+        read(name, table, 0, BYTES(missed.at[i]), 3, 4, REFUSED(8, 0), empty, 0);
+        spell(name, table, 0, BYTES(R(1, missed.at[i], 1, 0)), 1, REFUSED(12, 0), empty);
     }
 }
 
@@ -192,7 +229,7 @@ static void letter(const char *name, Bytes table, Bytes held, Bytes missed)
  */
 static void nulls(Bytes table, uint64_t start, Bytes line, Bytes reading, Bytes rival)
 {
-    static uint8_t work[100], out[2][16], spare[1];
+    static uint8_t work[100], out[2][32], spare[1];
     static const uint8_t listed[] = {9, 0, 1};
     static const trace_pair pair[] = {{8, 9}};
     for (int empties = 0; empties < 16; empties++) {
@@ -202,11 +239,11 @@ static void nulls(Bytes table, uint64_t start, Bytes line, Bytes reading, Bytes 
             memset(to, 0xee, sizeof out[null]);
 #define ARG(i, pointer, length) (empties >> (i) & 1 ? at : (pointer)), (empties >> (i) & 1 ? 0 : (length))
             got[null][0] = trace_check(ARG(0, table.at, table.length));
-            got[null][1] = trace_read(ARG(0, table.at, table.length), start, ARG(1, line.at, line.length), ARG(2, work, sizeof work), ARG(3, to, 16));
-            got[null][2] = trace_spell(ARG(0, table.at, table.length), start, ARG(1, reading.at, reading.length), ARG(3, to, 16));
+            got[null][1] = trace_read(ARG(0, table.at, table.length), start, ARG(1, line.at, line.length), ARG(2, work, sizeof work), ARG(3, to, 32));
+            got[null][2] = trace_spell(ARG(0, table.at, table.length), start, ARG(1, reading.at, reading.length), ARG(3, to, 32));
             got[null][3] = trace_compare(ARG(0, table.at, table.length), start, ARG(1, reading.at, reading.length), ARG(2, rival.at, rival.length));
-            got[null][4] = trace_tokens(ARG(0, table.at, table.length), start, ARG(1, reading.at, reading.length), ARG(3, to, 16));
-            got[null][5] = trace_compile(ARG(1, line.at, line.length), ARG(3, to, 16));
+            got[null][4] = trace_tokens(ARG(0, table.at, table.length), start, ARG(1, reading.at, reading.length), ARG(3, to, 32));
+            got[null][5] = trace_compile(ARG(1, line.at, line.length), ARG(3, to, 32));
             got[null][6] = trace_order(ARG(0, listed, sizeof listed), empties >> 3 & 1 ? (const trace_pair *)at : pair, empties >> 3 & 1 ? 0 : 1);
 #undef ARG
         }
@@ -222,63 +259,69 @@ int main(void)
     Bytes t2 = BYTES(2, 97, 97, 0, 1, 0, 0, 0, 3, 0, 1, 0, 2, 98, 98, 0, 2, 97, 97, 0, 2, 98, 98, 0, 4, 4, 5, 0, 3, 3, 6, 0, 4, 2, 7, 0);
     Bytes t3 = BYTES(1, 0, 0, 0, 5, 0, 0, 0), t4 = BYTES(1, 0, 0, 7), bad = BYTES(7, 0, 0, 0);
     Bytes ab = BYTES('a', 'b'), abc = BYTES('a', 'b', 'c');
-    Bytes stars = BYTES(5, 0), void_ = BYTES(0, 0);
-    Bytes b = BYTES(5, 1, 2, 0, 3, 0, 4, 0, 1, 97, 1, 98);
-    Bytes c = BYTES(5, 2, 2, 0, 2, 0, 1, 97, 3, 0, 4, 0, 1, 98, 1, 99);
-    Bytes d = BYTES(5, 3, 2, 0, 2, 0, 1, 97, 3, 0, 4, 0, 1, 98, 1, 99, 2, 0, 3, 0, 4, 0, 1, 97, 1, 98);
-    Bytes f = BYTES(4, 0, 2, 0, 1, 97, 2, 0, 1, 98), g = BYTES(4, 0, 3, 0, 0, 0, 3, 0, 4, 0, 1, 97, 1, 98);
+    Bytes stars = BYTES(R(5, 0, 0, 9)), stars_3 = BYTES(R(5, 0, 0, 1)), void_ = BYTES(R(0, 0, 0, 0));
+    Bytes b = BYTES(R(5, 1, 2, 9), R(2, 0, 2, 8), R(3, 0, 2, 7), R(4, 0, 2, 3), R(1, 97, 1, 1), R(1, 98, 1, 2));
+    Bytes c = BYTES(R(5, 2, 3, 9), R(2, 0, 1, 8), R(2, 0, 1, 7), R(1, 97, 1, 0), R(3, 0, 2, 8), R(4, 0, 2, 6), R(1, 98, 1, 4), R(1, 99, 1, 5));
+    Bytes d = BYTES(R(5, 3, 5, 9), R(2, 0, 1, 8), R(2, 0, 1, 7), R(1, 97, 1, 0), R(3, 0, 2, 8), R(4, 0, 2, 6), R(1, 98, 1, 4), R(1, 99, 1, 5),
+                    R(2, 0, 2, 8), R(3, 0, 2, 7), R(4, 0, 2, 3), R(1, 97, 1, 1), R(1, 98, 1, 2));
+    Bytes f = BYTES(R(4, 0, 2, 8), R(2, 0, 1, 2), R(1, 97, 1, 0), R(2, 0, 1, 7), R(1, 98, 1, 3));
+    Bytes g = BYTES(R(4, 0, 2, 8), R(3, 0, 0, 2), R(0, 0, 0, 1), R(3, 0, 2, 7), R(4, 0, 2, 6), R(1, 97, 1, 4), R(1, 98, 1, 5));
     Bytes c_tokens = BYTES(1, 0, 1, 3, 1, 2);
 
     /* A, B, C, F, I, J both ways, D's tokens, G, H */
-    read("A", t1, 9, empty, 10, 2, 1, stars, 0);
+    read("A", t1, 9, empty, 10, 4, 1, stars, 0);
     spell("A", t1, 9, stars, 0, 0, empty);
-    read("B", t1, 9, ab, 60, 12, 6, b, 0);
+    read("B", t1, 9, ab, 60, 24, 6, b, 0);
     spell("B", t1, 9, b, 2, 2, ab);
-    read("C", t1, 9, abc, 100, 16, 8, c, 0);
+    read("C", t1, 9, abc, 100, 32, 8, c, 0);
     spell("C", t1, 9, c, 3, 3, abc);
     tokens("D", t1, 9, d, 9, 3, BYTES(1, 0, 1, 3, 1, 2, 2, 3, 2));
     read("E", t1, 9, BYTES('b'), 30, 100, REFUSED(8, 0), empty, 0);
-    read("F", t2, 8, ab, 54, 10, 5, f, 0);
+    read("F", t2, 8, ab, 54, 20, 5, f, 0);
     spell("F", t2, 8, f, 2, 2, ab);
     compare("G", t2, 8, f, g, 1);
     compare("G, the other way round", t2, 8, g, f, 2);
     compare("F against itself", t2, 8, f, f, 0);
-    spell("H", t3, 1, BYTES(5, 1, 0, 0), 10, REFUSED(12, 0), empty);
-    read("I", t3, 1, empty, 2, 2, 1, stars, 0);
-    spell("I", t3, 1, stars, 0, 0, empty);
-    read("J", t4, 0, empty, 1, 2, 1, void_, 0);
+    spell("H", t3, 1, BYTES(R(5, 1, 0, 1), R(0, 0, 0, 0)), 10, REFUSED(12, 0), empty);
+    read("I", t3, 1, empty, 2, 4, 1, stars_3, 0);
+    spell("I", t3, 1, stars_3, 0, 0, empty);
+    read("J", t4, 0, empty, 1, 4, 1, void_, 0);
     spell("J", t4, 0, void_, 0, 0, empty);
     tokens("J", t4, 0, void_, 3, 0, empty);
 
     /* the worked example of docs/FORMATS.md; its second part is F and G */
     Bytes degrees = BYTES(2, '0', '9', 0, 5, 0, 0, 1, 2, 'C', 'C', 0, 4, 1, 2, 0), line29 = BYTES('2', '9', 'C');
-    Bytes reading29 = BYTES(4, 0, 5, 2, 1, '2', 1, '9', 1, 'C');
+    Bytes reading29 = BYTES(R(4, 0, 3, 3), R(5, 2, 2, 1), R(1, '2', 1, 0), R(1, '9', 1, 0), R(1, 'C', 1, 2));
     table_of(TEXT("[0-9]*#001C"), degrees);
     table_of(TEXT("(a|())(b|ab)"), t2);
     expect("29C, check", trace_check(degrees.at, degrees.length), 4);
-    read("29C", degrees, 3, line29, 40, 10, 5, reading29, 0);
-    read("29C, work area of 39", degrees, 3, line29, 39, 10, REFUSED(10, 0), empty, 1);
-    read("29C, buffer of 9", degrees, 3, line29, 40, 9, REFUSED(11, 10), empty, 0);
+    read("29C", degrees, 3, line29, 40, 20, 5, reading29, 0);
+    read("29C, work area of 39", degrees, 3, line29, 39, 20, REFUSED(10, 0), empty, 1);
+    read("29C, buffer of 19", degrees, 3, line29, 40, 19, REFUSED(11, 20), empty, 0);
     tokens("29C", degrees, 3, reading29, 3, 1, BYTES(1, 0, 2));
     spell("29C", degrees, 3, reading29, 3, 3, line29);
-    read("C29", degrees, 3, BYTES('C', '2', '9'), 40, 10, REFUSED(8, 0), empty, 0);
+    read("C29", degrees, 3, BYTES('C', '2', '9'), 40, 20, REFUSED(8, 0), empty, 0);
+    unfit("29C, a length of 1", degrees, 3, BYTES(R(4, 0, 3, 3), R(5, 2, 1, 1), R(1, '2', 1, 0), R(1, '9', 1, 0), R(1, 'C', 1, 2)), reading29);
+    unfit("29C, a record number of 2", degrees, 3, BYTES(R(4, 0, 3, 3), R(5, 2, 2, 1), R(1, '2', 1, 2), R(1, '9', 1, 0), R(1, 'C', 1, 2)), reading29);
 
     /* a remark, tagged 1, up to the semicolon; and its Star and its Other as the start */
     Bytes remark = BYTES(TRACE_OTHER, ';', ';', 0, 5, 0, 0, 1, 2, ';', ';', 0, 4, 1, 2, 0), remark_line = BYTES('a', 'b', ';');
-    Bytes remark_reading = BYTES(4, 0, 5, 2, 1, 'a', 1, 'b', 1, ';');
+    Bytes remark_reading = BYTES(R(4, 0, 3, 3), R(5, 2, 2, 1), R(1, 'a', 1, 0), R(1, 'b', 1, 0), R(1, ';', 1, 2));
+    Bytes remark_star = BYTES(R(5, 2, 2, 1), R(1, 'a', 1, 0), R(1, 'b', 1, 0)), remark_byte = BYTES(R(1, 'a', 1, 0));
     expect("ab;, check", trace_check(remark.at, remark.length), 4);
-    read("ab;", remark, 3, remark_line, 40, 10, 5, remark_reading, 0);
+    read("ab;", remark, 3, remark_line, 40, 20, 5, remark_reading, 0);
     spell("ab;", remark, 3, remark_reading, 3, 3, remark_line);
     tokens("ab;", remark, 3, remark_reading, 3, 1, BYTES(1, 0, 2));
     compare("ab;", remark, 3, remark_reading, remark_reading, 0);
-    read("a;b;", remark, 3, BYTES('a', ';', 'b', ';'), 60, 12, REFUSED(8, 0), empty, 0);
-    spell("a;b;", remark, 3, BYTES(4, 0, 5, 3, 1, 'a', 1, ';', 1, 'b', 1, ';'), 4, REFUSED(12, 0), empty);
-    read("no semicolon", remark, 3, ab, 24, 10, REFUSED(8, 0), empty, 0);
-    read("the Star", remark, 1, ab, 24, 6, 3, BYTES(5, 2, 1, 'a', 1, 'b'), 0);
-    tokens("the Star", remark, 1, BYTES(5, 2, 1, 'a', 1, 'b'), 3, 1, BYTES(1, 0, 2));
-    read("the Other", remark, 0, BYTES('a'), 12, 2, 1, BYTES(1, 'a'), 0);
-    tokens("the Other", remark, 0, BYTES(1, 'a'), 0, 0, empty);
-    read("the Other, a semicolon", remark, 0, BYTES(';'), 12, 2, REFUSED(8, 0), empty, 0);
+    read("a;b;", remark, 3, BYTES('a', ';', 'b', ';'), 60, 24, REFUSED(8, 0), empty, 0);
+    spell("a;b;", remark, 3, BYTES(R(4, 0, 4, 3), R(5, 3, 3, 1), R(1, 'a', 1, 0), R(1, ';', 1, 0), R(1, 'b', 1, 0), R(1, ';', 1, 2)), 4, REFUSED(12, 0),
+          empty);
+    read("no semicolon", remark, 3, ab, 24, 20, REFUSED(8, 0), empty, 0);
+    read("the Star", remark, 1, ab, 24, 12, 3, remark_star, 0);
+    tokens("the Star", remark, 1, remark_star, 3, 1, BYTES(1, 0, 2));
+    read("the Other", remark, 0, BYTES('a'), 12, 4, 1, remark_byte, 0);
+    tokens("the Other", remark, 0, remark_byte, 0, 0, empty);
+    read("the Other, a semicolon", remark, 0, BYTES(';'), 12, 4, REFUSED(8, 0), empty, 0);
 
     /* Other at its bounds, and the kind after it */
     letter("Other 5 5", BYTES(TRACE_OTHER, 5, 5, 0), BYTES(0, 4, 6, 255), BYTES(5));
@@ -298,20 +341,21 @@ int main(void)
 
     /* empty tagged parts: between two tagged bytes, of a remark, with tagged parts inside; and a tagged part of one byte */
     Bytes between = BYTES(2, 'a', 'a', 1, 1, 0, 0, 2, 2, 'b', 'b', 3, 4, 1, 2, 0, 4, 0, 3, 0), one = BYTES(2, 'a', 'a', 7);
-    Bytes between_reading = BYTES(4, 0, 1, 'a', 4, 0, 0, 0, 1, 'b');
-    read("a, an empty part, b", between, 4, ab, 30, 10, 5, between_reading, 0);
+    Bytes between_reading = BYTES(R(4, 0, 2, 4), R(1, 'a', 1, 0), R(4, 0, 1, 3), R(0, 0, 0, 1), R(1, 'b', 1, 2)), one_reading = BYTES(R(1, 'a', 1, 0));
+    Bytes empties = BYTES(1, 0, 0, 1, 1, 0, 0, 2, 4, 0, 1, 3), empties_reading = BYTES(R(4, 0, 0, 2), R(0, 0, 0, 0), R(0, 0, 0, 1));
+    read("a, an empty part, b", between, 4, ab, 30, 20, 5, between_reading, 0);
     tokens("a, an empty part, b", between, 4, between_reading, 6, 2, BYTES(1, 0, 1, 3, 1, 1));
     tokens("a, an empty part, b, buffer of 5", between, 4, between_reading, 5, REFUSED(11, 6), empty);
-    tokens("an empty remark", remark, 3, BYTES(4, 0, 5, 0, 1, ';'), 0, 0, empty);
-    tokens("tagged parts inside an empty one", BYTES(1, 0, 0, 1, 1, 0, 0, 2, 4, 0, 1, 3), 2, BYTES(4, 0, 0, 0, 0, 0), 0, 0, empty);
-    tokens("one byte", one, 0, BYTES(1, 'a'), 3, 1, BYTES(7, 0, 1));
-    tokens("one byte, buffer of 2", one, 0, BYTES(1, 'a'), 2, REFUSED(11, 3), empty);
-    tokens("one byte, no buffer", one, 0, BYTES(1, 'a'), 0, REFUSED(11, 3), empty);
+    tokens("an empty remark", remark, 3, BYTES(R(4, 0, 1, 3), R(5, 0, 0, 1), R(1, ';', 1, 2)), 0, 0, empty);
+    tokens("tagged parts inside an empty one", empties, 2, empties_reading, 0, 0, empty);
+    tokens("one byte", one, 0, one_reading, 3, 1, BYTES(7, 0, 1));
+    tokens("one byte, buffer of 2", one, 0, one_reading, 2, REFUSED(11, 3), empty);
+    tokens("one byte, no buffer", one, 0, one_reading, 0, REFUSED(11, 3), empty);
 
     /* a table lent up to its start record, and the whole one: 29C's, and behind it more records */
     Bytes more = BYTES(2, '0', '9', 0, 5, 0, 0, 1, 2, 'C', 'C', 0, 4, 1, 2, 0, 2, 'x', 'x', 9, 3, 3, 4, 8);
-    read("29C, more records", more, 3, line29, 60, 10, 5, reading29, 0);
-    read("29C, more records and the work area of 4", more, 3, line29, 40, 10, REFUSED(10, 0), empty, 1);
+    read("29C, more records", more, 3, line29, 60, 20, 5, reading29, 0);
+    read("29C, more records and the work area of 4", more, 3, line29, 40, 20, REFUSED(10, 0), empty, 1);
     tokens("29C, more records", more, 3, reading29, 3, 1, BYTES(1, 0, 2));
     spell("29C, more records", more, 3, reading29, 3, 3, line29);
     compare("29C, more records", more, 3, reading29, reading29, 0);
@@ -324,54 +368,117 @@ int main(void)
     tokens("start m", t1, 10, empty, 0, REFUSED(9, 0), empty);
     compare("start m", t1, 10, empty, empty, REFUSED(9, 0));
     read("start m", t1, 10, abc, 0, 0, REFUSED(9, 0), empty, 1);
-    read("the largest start", t1, UINT64_MAX, abc, 100, 16, REFUSED(9, 0), empty, 1);
+    read("the largest start", t1, UINT64_MAX, abc, 100, 32, REFUSED(9, 0), empty, 1);
 
     /* 11 and its detail */
     spell("buffer of 2 for abc", t1, 9, c, 2, REFUSED(11, 3), empty);
     tokens("buffer of 6 for two tokens", t1, 9, c, 6, 2, c_tokens);
     tokens("buffer of 5 for two tokens", t1, 9, c, 5, REFUSED(11, 6), empty);
     tokens("no buffer", t4, 0, void_, 0, 0, empty);
-    read("buffer of 15 for abc", t1, 9, abc, 100, 15, REFUSED(11, 16), empty, 0);
-    read("no buffer", t1, 9, empty, 10, 0, REFUSED(11, 2), empty, 0);
+    read("buffer of 31 for abc", t1, 9, abc, 100, 31, REFUSED(11, 32), empty, 0);
+    read("no buffer for abc", t1, 9, abc, 100, 0, REFUSED(11, 32), empty, 0);
+    read("no buffer", t1, 9, empty, 10, 0, REFUSED(11, 4), empty, 0);
+    read("buffer of 3", t1, 9, empty, 10, 3, REFUSED(11, 4), empty, 0);
 
     /* 12: too short, a byte over, a wrong argument, an empty iteration, the other table's reading */
-    spell("no byte", t1, 9, empty, 9, REFUSED(12, 0), empty);
-    spell("one byte", t1, 9, BYTES(5), 9, REFUSED(12, 0), empty);
-    spell("a byte over", t1, 9, BYTES(5, 0, 0), 9, REFUSED(12, 0), empty);
-    spell("a record over", t1, 9, BYTES(5, 0, 5, 0), 9, REFUSED(12, 0), empty);
-    spell("a count too high", t1, 9, BYTES(5, 1), 9, REFUSED(12, 0), empty);
-    spell("a wrong argument", t4, 0, BYTES(0, 1), 9, REFUSED(12, 0), empty);
-    tokens("a wrong argument", t4, 0, BYTES(0, 1), 9, REFUSED(12, 0), empty);
+    unfit("no byte", t1, 9, empty, stars);
+    unfit("one byte", t1, 9, BYTES(5), stars);
+    unfit("two bytes", t1, 9, BYTES(5, 0), stars);
+    unfit("three bytes", t1, 9, BYTES(5, 0, 0), stars);
+    unfit("a byte over", t1, 9, BYTES(R(5, 0, 0, 9), 0), stars);
+    unfit("a record over", t1, 9, BYTES(R(5, 0, 0, 9), R(5, 0, 0, 9)), stars);
+    unfit("a count too high", t1, 9, BYTES(R(5, 1, 0, 9)), stars);
+    unfit("a count and a length too high", t1, 9, BYTES(R(5, 1, 1, 9)), stars);
+    unfit("a length too high", t1, 9, BYTES(R(5, 0, 1, 9)), stars);
+    unfit("another record number", t1, 9, BYTES(R(5, 0, 0, 8)), stars);
+    unfit("a record number that is none", t1, 9, BYTES(R(5, 0, 0, 10)), stars);
+    unfit("a wrong argument", t4, 0, BYTES(R(0, 1, 0, 0)), void_);
+    unfit("records of two bytes", t4, 0, BYTES(0, 0), void_);
+    unfit("an empty iteration", t3, 1, BYTES(R(5, 1, 0, 1), R(0, 0, 0, 0)), stars_3);
     compare("12 first", t2, 8, stars, f, REFUSED(12, 0));
     compare("12 second", t2, 8, f, stars, REFUSED(12, 1));
     compare("12 both", t2, 8, stars, stars, REFUSED(12, 0));
+    compare("12 of the second, with another length, before 14", t1, 9, b, BYTES(R(5, 0, 3, 9)), REFUSED(12, 1));
 
-    /* 13 at 256 bytes: (a*)(a*), 255 bytes in the first star and 0, 1 or 2 in the second */
+    /* 12: every other kind, argument, length and record number, at each record */
+    damaged("A", t1, 9, stars);
+    damaged("B", t1, 9, b);
+    damaged("C", t1, 9, c);
+    damaged("D", t1, 9, d);
+    damaged("F", t2, 8, f);
+    damaged("G", t2, 8, g);
+    damaged("I", t3, 1, stars_3);
+    damaged("J", t4, 0, void_);
+    damaged("29C", degrees, 3, reading29);
+    damaged("ab;", remark, 3, remark_reading);
+    damaged("a, an empty part, b", between, 4, between_reading);
+    damaged("tagged parts inside an empty one", empties, 2, empties_reading);
+
+    /* 12: lengths that are wrong together, and parts with the numbers of records that spell the same: (a|a)(a|a) */
+    Bytes same = BYTES(2, 97, 97, 0, 2, 97, 97, 0, 3, 0, 1, 0, 2, 97, 97, 0, 2, 97, 97, 0, 3, 3, 4, 0, 4, 2, 5, 0);
+    Bytes same_reading = BYTES(R(4, 0, 2, 6), R(2, 0, 1, 2), R(1, 97, 1, 0), R(3, 0, 1, 5), R(1, 97, 1, 4));
+    damaged("(a|a)(a|a)", same, 6, same_reading);
+    unfit("a length and those above it", same, 6, BYTES(R(4, 0, 3, 6), R(2, 0, 2, 2), R(1, 97, 2, 0), R(3, 0, 1, 5), R(1, 97, 1, 4)), same_reading);
+    unfit("a Byte of 0", same, 6, BYTES(R(4, 0, 1, 6), R(2, 0, 0, 2), R(1, 97, 0, 0), R(3, 0, 1, 5), R(1, 97, 1, 4)), same_reading);
+    unfit("one more and one less", same, 6, BYTES(R(4, 0, 2, 6), R(2, 0, 2, 2), R(1, 97, 2, 0), R(3, 0, 0, 5), R(1, 97, 0, 4)), same_reading);
+    unfit("every length 0", same, 6, BYTES(R(4, 0, 0, 6), R(2, 0, 0, 2), R(1, 97, 0, 0), R(3, 0, 0, 5), R(1, 97, 0, 4)), same_reading);
+    unfit("Left with the number of Right's record", same, 6, BYTES(R(4, 0, 2, 6), R(2, 0, 1, 2), R(1, 97, 1, 1), R(3, 0, 1, 5), R(1, 97, 1, 4)),
+          same_reading);
+    unfit("the numbers of the other Or", same, 6, BYTES(R(4, 0, 2, 6), R(2, 0, 1, 5), R(1, 97, 1, 3), R(3, 0, 1, 5), R(1, 97, 1, 4)), same_reading);
+    unfit("the two changed about", same, 6, BYTES(R(4, 0, 2, 6), R(3, 0, 1, 5), R(1, 97, 1, 4), R(2, 0, 1, 2), R(1, 97, 1, 0)), same_reading);
+
+    /* 12 at 256 bytes: (a*)(a*), 255 bytes in the first star and 0, 1 or 2 in the second, whatever the root's length is said to be */
     Bytes two = BYTES(2, 97, 97, 0, 5, 0, 0, 5, 2, 97, 97, 0, 5, 2, 0, 6, 4, 1, 3, 0);
-    uint8_t long_[3][522], as[255];
+    uint8_t long_[3][4 * 260], as[255];
     Bytes spells[3];
     memset(as, 'a', sizeof as);
     for (int more = 0; more < 3; more++) {
-        uint8_t *at = long_[more];
-        *at++ = 4, *at++ = 0, *at++ = 5, *at++ = 255;
+        uint8_t *at = long_[more], seq[] = {R(4, 0, (uint8_t)(255 + more), 4)}, first[] = {R(5, 255, 255, 1)};
+        uint8_t second[] = {R(5, (uint8_t)more, (uint8_t)more, 3)}, byte[] = {R(1, 'a', 1, 0)};
+        memcpy(at, seq, 4), at += 4;
+        memcpy(at, first, 4), at += 4;
         for (int i = 0; i < 255; i++)
-            *at++ = 1, *at++ = 'a';
-        *at++ = 5, *at++ = (uint8_t)more;
+            memcpy(at, byte, 4), at += 4;
+        memcpy(at, second, 4), at += 4;
+        byte[3] = 2;
         for (int i = 0; i < more; i++)
-            *at++ = 1, *at++ = 'a';
+            memcpy(at, byte, 4), at += 4;
         spells[more] = (Bytes){long_[more], (size_t)(at - long_[more])};
     }
     spell("255 bytes", two, 4, spells[0], 255, 255, (Bytes){as, 255});
     spell("255 bytes into 254", two, 4, spells[0], 254, REFUSED(11, 255), empty);
-    spell("256 bytes", two, 4, spells[1], 0, REFUSED(13, 0), empty);
     tokens("255 bytes", two, 4, spells[0], 3, 1, BYTES(5, 0, 255));
     tokens("255 bytes, buffer of 2", two, 4, spells[0], 2, REFUSED(11, 3), empty);
-    tokens("256 bytes", two, 4, spells[1], 0, REFUSED(13, 0), empty);
     compare("255 bytes", two, 4, spells[0], spells[0], 0);
-    compare("13 first", two, 4, spells[1], spells[0], REFUSED(13, 0));
-    compare("13 second", two, 4, spells[0], spells[1], REFUSED(13, 1));
-    compare("13 both", two, 4, spells[2], spells[1], REFUSED(13, 0));
-    compare("12 second before 13 first", two, 4, spells[1], stars, REFUSED(12, 1));
+    for (int length = 0; length < 256; length++)
+        for (int more = 1; more < 3; more++) {
+            long_[more][2] = (uint8_t)length;
+            unfit("256 and 257 bytes, every length", two, 4, spells[more], spells[0]);
+        }
+    compare("256 bytes in both", two, 4, spells[2], spells[1], REFUSED(12, 0));
+    compare("256 bytes in the first, and a second that is no reading", two, 4, spells[1], stars, REFUSED(12, 0));
+
+    /* the same by one Stars more: (a*)* of 255 and 1, and of 254 and 1 */
+    Bytes nest = BYTES(2, 97, 97, 0, 5, 0, 0, 0, 5, 1, 0, 7);
+    uint8_t nested[4 * 259];
+    for (int more = 0; more < 2; more++) {
+        uint8_t *at = nested, top[] = {R(5, 2, (uint8_t)(255 + more), 2)}, first[] = {R(5, (uint8_t)(254 + more), (uint8_t)(254 + more), 1)};
+        uint8_t second[] = {R(5, 1, 1, 1)}, byte[] = {R(1, 'a', 1, 0)};
+        memcpy(at, top, 4), at += 4;
+        memcpy(at, first, 4), at += 4;
+        for (int i = 0; i < 254 + more; i++)
+            memcpy(at, byte, 4), at += 4;
+        memcpy(at, second, 4), at += 4;
+        memcpy(at, byte, 4), at += 4;
+        Bytes reading = {nested, (size_t)(at - nested)};
+        if (more == 0)
+            tokens("254 and 1", nest, 2, reading, 3, 1, BYTES(7, 0, 255));
+        for (int length = 0; length < 256; length++) {
+            nested[2] = (uint8_t)length;
+            if (more > 0 || length < 255)
+                unfit("254 or 255 and 1, every length", nest, 2, reading, BYTES(R(5, 0, 0, 2)));
+        }
+    }
 
     /* the longest list: the same with the tag 5 on each byte in place of the first star */
     Bytes each = BYTES(2, 97, 97, 5, 5, 0, 0, 0, 2, 97, 97, 0, 5, 2, 0, 6, 4, 1, 3, 0);
@@ -386,15 +493,16 @@ int main(void)
     compare("14, one of them empty", t1, 9, stars, c, REFUSED(14, 0));
 
     /* 7 and 10, in this order, and the work area's edge */
-    uint8_t line[256], byte_star[512];
+    uint8_t line[256], byte_star[1024];
     Bytes any = BYTES(2, 0, 255, 0, 5, 0, 0, 0);
     memset(line, 'a', sizeof line);
-    byte_star[0] = 5, byte_star[1] = 255;
-    for (int i = 0; i < 255; i++)
-        byte_star[2 + 2 * i] = 1, byte_star[3 + 2 * i] = 'a';
-    read("99 work bytes for abc", t1, 9, abc, 99, 16, REFUSED(10, 0), empty, 1);
-    read("a line of 255", any, 1, (Bytes){line, 255}, 65792, 512, 256, (Bytes){byte_star, 512}, 0);
-    read("a line of 255, one work byte short", any, 1, (Bytes){line, 255}, 65791, 512, REFUSED(10, 0), empty, 1);
+    memcpy(byte_star, BYTES(R(5, 255, 255, 1)).at, 4);
+    for (int i = 1; i < 256; i++)
+        memcpy(byte_star + 4 * i, BYTES(R(1, 'a', 1, 0)).at, 4);
+    read("99 work bytes for abc", t1, 9, abc, 99, 32, REFUSED(10, 0), empty, 1);
+    read("a line of 255", any, 1, (Bytes){line, 255}, 65792, 1024, 256, (Bytes){byte_star, 1024}, 0);
+    read("a line of 255, a byte short", any, 1, (Bytes){line, 255}, 65792, 1023, REFUSED(11, 1024), empty, 0);
+    read("a line of 255, one work byte short", any, 1, (Bytes){line, 255}, 65791, 1024, REFUSED(10, 0), empty, 1);
     read("a line of 256", any, 1, (Bytes){line, 256}, 0, 0, REFUSED(7, 0), empty, 1);
     read("a refused table", bad, 9, (Bytes){line, 256}, 0, 0, REFUSED(2, 0), empty, 1);
 

@@ -1,22 +1,24 @@
 #!/usr/bin/env bash
-# example.sh COMMISSION RULES: what the example commissioning tool prints for its sample input, and its exit statuses; and those of the example that
-# tries a rule on a line. Run from the repository's root.
+# example.sh FOLDER: what the example commissioning tool, in this folder, prints for its sample input, and its exit statuses; those of the example
+# that tries a rule on a line; and what the one that shows the parts of a line prints. Run from the repository's root.
 set -uo pipefail
 fail() {
     echo "example: $1"
     exit 1
 }
-diff examples/commission.expected <("$1" <examples/commission.input) || fail "other output than examples/commission.expected"
-"$1" <examples/commission.input >/dev/null
+commission=$1/commission
+rules=$1/rules
+diff examples/commission.expected <("$commission" <examples/commission.input) || fail "other output than examples/commission.expected"
+"$commission" <examples/commission.input >/dev/null
 [ $? -eq 1 ] || fail "the status is not 1 where a line is refused"
-printf '12:04 lift 29\n12:04 lift 29 brake 104' | "$1" >/dev/null || fail "the status is not 0 where every line is shown"
-printf '12:04 brake 104' | "$1" >/dev/null
+printf '12:04 lift 29\n12:04 lift 29 brake 104' | "$commission" >/dev/null || fail "the status is not 0 where every line is shown"
+printf '12:04 brake 104' | "$commission" >/dev/null
 [ $? -eq 1 ] || fail "the status is not 1 where a brake temperature has no lift temperature ahead of it"
-"$1" <. >/dev/null 2>&1
+"$commission" <. >/dev/null 2>&1
 [ $? -eq 2 ] || fail "the status is not 2 where reading fails"
-(ulimit -v 100000 && head -c 200000000 /dev/zero | "$1" >/dev/null 2>&1)
+(ulimit -v 100000 && head -c 200000000 /dev/zero | "$commission" >/dev/null 2>&1)
 [ $? -eq 2 ] || fail "the status is not 2 where a line is too long for the memory"
-printf '12:04 lift 29' | "$1" >/dev/full 2>/dev/null
+printf '12:04 lift 29' | "$commission" >/dev/full 2>/dev/null
 [ $? -eq 2 ] || fail "the status is not 2 where writing fails"
 
 # tries RULE LINE STATUS TEXT: what the second example prints, and its exit status
@@ -25,7 +27,6 @@ tries() {
     status=$?
     [ "$status" -eq "$3" ] && [ "$says" = "$(printf "$4")" ] || fail "the rule '$1' on '$2' gives status $status and '$says'"
 }
-rules=$2
 tries '([0-9][0-9]*)#001C' 29C 0 'records: 6\n1: 29'
 tries '([0-9][0-9]*)#001C' C29 1 'records: 6\nrefused 8: the start record does not spell the line'
 tries '()' '' 0 'records: 1'
@@ -34,4 +35,11 @@ tries '[ -~]*#002' "$(printf '7%.0s' {1..255})" 0 "records: 2\n2: $(printf '7%.0
 tries '[ -~]*#002' "$(printf '7%.0s' {1..256})" 1 'records: 2\nrefused 7: the line is over 255 bytes long'
 "$rules" 2>/dev/null
 [ $? -eq 2 ] || fail "the status is not 2 without a rule and a line"
+diff <("$1/parts") - <<'END' || fail "examples/parts.c prints something else"
+record 3: offset 0, length 3: 29C
+record 1: offset 0, length 2: 29
+record 0: offset 0, length 1: 2
+record 0: offset 1, length 1: 9
+record 2: offset 2, length 1: C
+END
 echo "example: ok"

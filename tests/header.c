@@ -41,6 +41,7 @@ static void answers(void)
     uint8_t work[6], reading[4], tokens[6];
     uint64_t answer = trace_read(table, sizeof table, 1, (const uint8_t *)"b", 1, work, sizeof work, reading, sizeof reading);
     expect("a result", !trace_is_refused(answer) && answer == 1 && trace_refusal(answer) == 0);
+    expect("a reading's record", sizeof reading == TRACE_READING_RECORD && memcmp(reading, "\1b\1\1", TRACE_READING_RECORD) == 0);
     answer = trace_tokens(table, sizeof table, 1, reading, TRACE_READING_RECORD, tokens, 2);
     expect("a refusal", trace_is_refused(answer) && trace_refusal(answer) == TRACE_REFUSED_BUFFER && trace_detail(answer) == TRACE_TOKEN);
     expect("the check", trace_check(table, sizeof table) == sizeof table / TRACE_TABLE_RECORD);
@@ -69,7 +70,7 @@ static void pairs(void)
 static void sizes(void)
 {
     expect("the work area's size", trace_work_size(10, 3) == 100 && trace_work_size(255, 255) == 8388480 && trace_work_size(1, 0) == 1);
-    expect("a reading's size", trace_reading_size(10, 3) == 60 && trace_reading_size(10, 0) == 20);
+    expect("a reading's size", trace_reading_size(10, 3) == 120 && trace_reading_size(10, 0) == 40 && trace_reading_size(255, 255) == 260100);
     expect("a table's size", TRACE_MAX_TABLE == TRACE_MAX_RECORDS * TRACE_TABLE_RECORD);
     expect("the tokens' size", trace_tokens_size(3) == 9 && trace_tokens_size(TRACE_MAX_LINE) == 765 && trace_tokens_size(0) == 0);
 }

@@ -42,7 +42,7 @@ int main(int count, char **arguments)
     uint64_t (*tokens)(const uint8_t *, size_t, uint64_t, const uint8_t *, size_t, uint8_t *, size_t);
     uint64_t (*compile)(const uint8_t *, size_t, uint8_t *, size_t);
     uint64_t (*order)(const uint8_t *, size_t, const trace_pair *, size_t);
-    uint8_t work[100], reading[60], listed[90], line[3], made[TRACE_MAX_TABLE];
+    uint8_t work[100], reading[120], listed[90], line[3], made[TRACE_MAX_TABLE];
     void *library = dlopen(count == 2 ? arguments[1] : "", RTLD_NOW | RTLD_LOCAL);
     if (library == NULL) {
         printf("loaded: %s\n", dlerror());
@@ -58,9 +58,9 @@ int main(int count, char **arguments)
 
     expect("check", check(table, sizeof table) == 10);
     expect("read", read(table, sizeof table, 9, (const uint8_t *)"abc", 3, work, sizeof work, reading, sizeof reading) == 8);
-    expect("spell", spell(table, sizeof table, 9, reading, 16, line, sizeof line) == 3 && memcmp(line, "abc", 3) == 0);
-    expect("compare", compare(table, sizeof table, 9, reading, 16, reading, 16) == 0);
-    expect("tokens", tokens(table, sizeof table, 9, reading, 16, listed, sizeof listed) == 2 && memcmp(listed, "\1\0\1\3\1\2", 6) == 0);
+    expect("spell", spell(table, sizeof table, 9, reading, 8 * TRACE_READING_RECORD, line, sizeof line) == 3 && memcmp(line, "abc", 3) == 0);
+    expect("compare", compare(table, sizeof table, 9, reading, 8 * TRACE_READING_RECORD, reading, 8 * TRACE_READING_RECORD) == 0);
+    expect("tokens", tokens(table, sizeof table, 9, reading, 8 * TRACE_READING_RECORD, listed, sizeof listed) == 2 && memcmp(listed, "\1\0\1\3\1\2", 6) == 0);
     expect("order, kept", order(listed, 6, &(trace_pair){1, 3}, 1) == 2);
     expect("order, broken", order(listed, 6, &(trace_pair){2, 3}, 1) == 1);
     expect("a list that is refused", trace_refusal(order(listed, 5, &(trace_pair){1, 3}, 1)) == TRACE_REFUSED_TOKEN_BYTES);

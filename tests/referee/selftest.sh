@@ -47,7 +47,7 @@ done <<'LIST'
 16 valgrind fitting looks past the end of a reading
 17 gate the start number loses its upper half
 18 gate refusal 11 has the records as its detail
-19 gate Compare says 13 of the first before 12 of the second
+19 gate Compare says 14 before 12 of the second
 20 stack fitting takes 8 KiB of stack at each level
 21 gate Tokens goes inside a tagged record
 22 gate Other holds its bounds
@@ -145,4 +145,54 @@ done <<'LIST'
 114 valgrind Order: reads past the end of the pairs
 115 stack Order: copies the list to the stack
 116 order Order: changes the list
+117 gate Read writes the length of the first part for the Seq
+118 gate Read writes the count for the length of a Stars
+119 gate a length one below is taken
+120 gate a length one above is taken
+121 gate a length modulo 256 is taken
+122 gate the length of the first part is taken for the Seq's
+123 gate the count is taken for the length of a Stars
+124 gate lengths are looked at in the root alone
+125 gate 255 is taken for the length of a reading of 256 bytes and more
+126 gate 13 is given for a reading of 256 bytes and more
+127 gate Compare does not look at the lengths and record numbers of the second
+128 gate a wrong record number is taken
+129 gate record numbers are looked at in the root alone
+130 gate Read writes the length of the rest of the line
+131 gate Read writes where the part ends for its length
+132 gate Read writes the child's number for that of the Or
+133 gate Read writes 0 for the length 255
+134 gate refusal 11 of Read has half the bytes as its detail
+135 gate lengths are compared by 7 bits
+136 gate the length 0 is taken for any other
+137 gate the length 255 is taken for any other
+138 gate a lower length is taken
+139 gate a higher length is taken
+140 gate the length of a Void is not looked at
+141 gate the length of a Byte is not looked at
+142 gate the length of a Left is not looked at
+143 gate the length of a Right is not looked at
+144 gate the length of a Seq is not looked at
+145 gate the length of a Stars is not looked at
+146 gate the record number of a Void is not looked at
+147 gate the record number of a Byte is not looked at
+148 gate the record number of a Left is not looked at
+149 gate the record number of a Right is not looked at
+150 gate the record number of a Seq is not looked at
+151 gate the record number of a Stars is not looked at
+152 gate record numbers are compared by 7 bits
+153 gate the record number 0 is taken for any other
+154 gate the number of records is taken for a record number
+155 gate the record number of a child is taken for its parent's
+156 gate a lower record number is taken
+157 gate a higher record number is taken
+158 gate the number of another record of the same kind is taken
+159 valgrind fitting looks at the record number past the end of a reading
+160 gate a last record without its last byte is taken
+161 gate Compare says 12 of the second with detail 0
+162 gate lengths are added up as they are written
+163 gate a part is read by the record that it names
+164 gate Spell does not look at lengths and record numbers
+165 gate Tokens does not look at lengths and record numbers
+166 gate Compare does not look at the lengths and record numbers of the first
 LIST

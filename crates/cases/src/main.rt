@@ -3,7 +3,7 @@
 
 ghost use mathlib.Core.Path.{_≡_};
 ghost use Rattle.cases.specs.Tables.{T1, T2, T3, T4, Remark, NoByte, AllBut5, Crossed, Kind7, Gust, Blank, T1-text, T2-text};
-ghost use Rattle.cases.specs.Cases.{B-reading, C-reading, D-reading, F-reading, G-rival, Remark-reading, Remark-unfit, Gust-there, Gust-absent, Blank-reading};
+ghost use Rattle.cases.specs.Cases.{B-reading, B-length, B-number, B-count, B-first, C-reading, D-reading, F-reading, G-rival, Remark-reading, Remark-unfit, Gust-there, Gust-absent, Blank-reading, D-written};
 use libc::STDOUT_FILENO;
 use table::Answer;
 
@@ -85,64 +85,94 @@ fn t2_text() -> [u8; 12]
     *b"(a|())(b|ab)"
 }
 
-fn b_reading() -> [u8; 12]
+fn b_reading() -> [u8; 24]
     ensures { λ r. ⌜ r ≡ B-reading ⌝ }
 {
-    *b"\x05\x01\x02\x00\x03\x00\x04\x00\x01\x61\x01\x62"
+    *b"\x05\x01\x02\x09\x02\x00\x02\x08\x03\x00\x02\x07\x04\x00\x02\x03\x01\x61\x01\x01\x01\x62\x01\x02"
 }
 
-fn c_reading() -> [u8; 16]
+fn b_length() -> [u8; 24]
+    ensures { λ r. ⌜ r ≡ B-length ⌝ }
+{
+    *b"\x05\x01\x02\x09\x02\x00\x02\x08\x03\x00\x01\x07\x04\x00\x02\x03\x01\x61\x01\x01\x01\x62\x01\x02"
+}
+
+fn b_number() -> [u8; 24]
+    ensures { λ r. ⌜ r ≡ B-number ⌝ }
+{
+    *b"\x05\x01\x02\x09\x02\x00\x02\x07\x03\x00\x02\x07\x04\x00\x02\x03\x01\x61\x01\x01\x01\x62\x01\x02"
+}
+
+fn b_count() -> [u8; 24]
+    ensures { λ r. ⌜ r ≡ B-count ⌝ }
+{
+    *b"\x05\x01\x01\x09\x02\x00\x02\x08\x03\x00\x02\x07\x04\x00\x02\x03\x01\x61\x01\x01\x01\x62\x01\x02"
+}
+
+fn b_first() -> [u8; 24]
+    ensures { λ r. ⌜ r ≡ B-first ⌝ }
+{
+    *b"\x05\x01\x02\x09\x02\x00\x02\x08\x03\x00\x02\x07\x04\x00\x01\x03\x01\x61\x01\x01\x01\x62\x01\x02"
+}
+
+fn c_reading() -> [u8; 32]
     ensures { λ r. ⌜ r ≡ C-reading ⌝ }
 {
-    *b"\x05\x02\x02\x00\x02\x00\x01\x61\x03\x00\x04\x00\x01\x62\x01\x63"
+    *b"\x05\x02\x03\x09\x02\x00\x01\x08\x02\x00\x01\x07\x01\x61\x01\x00\x03\x00\x02\x08\x04\x00\x02\x06\x01\x62\x01\x04\x01\x63\x01\x05"
 }
 
-fn d_reading() -> [u8; 26]
+fn d_reading() -> [u8; 52]
     ensures { λ r. ⌜ r ≡ D-reading ⌝ }
 {
-    *b"\x05\x03\x02\x00\x02\x00\x01\x61\x03\x00\x04\x00\x01\x62\x01\x63\x02\x00\x03\x00\x04\x00\x01\x61\x01\x62"
+    *b"\x05\x03\x05\x09\x02\x00\x01\x08\x02\x00\x01\x07\x01\x61\x01\x00\x03\x00\x02\x08\x04\x00\x02\x06\x01\x62\x01\x04\x01\x63\x01\x05\x02\x00\x02\x08\x03\x00\x02\x07\x04\x00\x02\x03\x01\x61\x01\x01\x01\x62\x01\x02"
 }
 
-fn f_reading() -> [u8; 10]
+fn f_reading() -> [u8; 20]
     ensures { λ r. ⌜ r ≡ F-reading ⌝ }
 {
-    *b"\x04\x00\x02\x00\x01\x61\x02\x00\x01\x62"
+    *b"\x04\x00\x02\x08\x02\x00\x01\x02\x01\x61\x01\x00\x02\x00\x01\x07\x01\x62\x01\x03"
 }
 
-fn g_rival() -> [u8; 14]
+fn g_rival() -> [u8; 28]
     ensures { λ r. ⌜ r ≡ G-rival ⌝ }
 {
-    *b"\x04\x00\x03\x00\x00\x00\x03\x00\x04\x00\x01\x61\x01\x62"
+    *b"\x04\x00\x02\x08\x03\x00\x00\x02\x00\x00\x00\x01\x03\x00\x02\x07\x04\x00\x02\x06\x01\x61\x01\x04\x01\x62\x01\x05"
 }
 
-fn remark_reading() -> [u8; 10]
+fn remark_reading() -> [u8; 20]
     ensures { λ r. ⌜ r ≡ Remark-reading ⌝ }
 {
-    *b"\x04\x00\x05\x02\x01\x61\x01\x62\x01\x3b"
+    *b"\x04\x00\x03\x03\x05\x02\x02\x01\x01\x61\x01\x00\x01\x62\x01\x00\x01\x3b\x01\x02"
 }
 
-fn remark_unfit() -> [u8; 8]
+fn remark_unfit() -> [u8; 16]
     ensures { λ r. ⌜ r ≡ Remark-unfit ⌝ }
 {
-    *b"\x04\x00\x05\x01\x01\x3b\x01\x3b"
+    *b"\x04\x00\x02\x03\x05\x01\x01\x01\x01\x3b\x01\x00\x01\x3b\x01\x02"
 }
 
-fn gust_there() -> [u8; 12]
+fn gust_there() -> [u8; 24]
     ensures { λ r. ⌜ r ≡ Gust-there ⌝ }
 {
-    *b"\x04\x00\x01\x61\x04\x00\x02\x00\x01\x67\x01\x62"
+    *b"\x04\x00\x03\x06\x01\x61\x01\x00\x04\x00\x02\x05\x02\x00\x01\x03\x01\x67\x01\x01\x01\x62\x01\x04"
 }
 
-fn gust_absent() -> [u8; 12]
+fn gust_absent() -> [u8; 24]
     ensures { λ r. ⌜ r ≡ Gust-absent ⌝ }
 {
-    *b"\x04\x00\x01\x61\x04\x00\x03\x00\x00\x00\x01\x62"
+    *b"\x04\x00\x02\x06\x01\x61\x01\x00\x04\x00\x01\x05\x03\x00\x00\x03\x00\x00\x00\x02\x01\x62\x01\x04"
 }
 
-fn blank_reading() -> [u8; 6]
+fn blank_reading() -> [u8; 12]
     ensures { λ r. ⌜ r ≡ Blank-reading ⌝ }
 {
-    *b"\x04\x00\x00\x00\x00\x00"
+    *b"\x04\x00\x00\x02\x00\x00\x00\x00\x00\x00\x00\x01"
+}
+
+fn d_written() -> [u8; 52]
+    ensures { λ r. ⌜ r ≡ D-written ⌝ }
+{
+    *b"\x05\x03\x05\x09\x02\x00\x01\x08\x02\x00\x01\x04\x01\x61\x01\x00\x03\x00\x02\x08\x04\x00\x02\x07\x01\x62\x01\x05\x01\x63\x01\x06\x02\x00\x02\x08\x03\x00\x02\x04\x04\x00\x02\x03\x01\x61\x01\x01\x01\x62\x01\x02"
 }
 
 // An answer: `gives` and the result, or `refuses`, the number and the detail.
@@ -183,24 +213,25 @@ fn run_check(name: &[u8], bytes: &[u8]) {
     show_bytes(b"");
 }
 
-// Each call below is lent a buffer of 32 bytes of 0xee and shows all of it afterwards; a work area has 210 bytes, what T1 needs for a line of 5.
+// Each call below is lent a buffer of 52 bytes of 0xee, as many as D's reading has, and shows all of it afterwards; a work area has 280 bytes, what T1
+// needs for a line of 6.
 fn run_read(name: &[u8], bytes: &[u8], start: usize, line: &[u8]) {
-    let mut work = [0u8; 210];
-    let mut out = [0xeeu8; 32];
+    let mut work = [0u8; 280];
+    let mut out = [0xeeu8; 52];
     io::write_all(STDOUT_FILENO, name);
     show_answer(matcher::read(bytes, start, line, &mut work, &mut out));
     show_bytes(&out);
 }
 
 fn run_spell(name: &[u8], bytes: &[u8], start: usize, reading: &[u8]) {
-    let mut out = [0xeeu8; 32];
+    let mut out = [0xeeu8; 52];
     io::write_all(STDOUT_FILENO, name);
     show_answer(reading::spell(bytes, start, reading, &mut out));
     show_bytes(&out);
 }
 
 fn run_tokens(name: &[u8], bytes: &[u8], start: usize, reading: &[u8]) {
-    let mut out = [0xeeu8; 32];
+    let mut out = [0xeeu8; 52];
     io::write_all(STDOUT_FILENO, name);
     show_answer(tokens::tokens(bytes, start, reading, &mut out));
     show_bytes(&out);
@@ -228,10 +259,29 @@ fn run_t1() {
     run_spell(b"C spelled", &table, 9, &c_reading());
 }
 
+// B's reading with a wrong length or record number.
+fn run_t1_unfit() {
+    let table = t1();
+    run_spell(b"B, a length one short", &table, 9, &b_length());
+    run_spell(b"B, another record's number", &table, 9, &b_number());
+    run_tokens(b"B, the count for the length", &table, 9, &b_count());
+    run_tokens(b"B, the first part's length", &table, 9, &b_first());
+}
+
+fn run_t1_unfit_compared() {
+    let table = t1();
+    let reading = b_reading();
+    let length = b_length();
+    let number = b_number();
+    run_compare(b"The first unfit", &table, 9, &length, &reading);
+    run_compare(b"The second unfit", &table, 9, &reading, &number);
+}
+
 fn run_t1_more() {
     let table = t1();
     run_read(b"D", &table, 9, b"abcab");
     run_tokens(b"D tokens", &table, 9, &d_reading());
+    run_read(b"abcabc", &table, 9, b"abcabc");
     run_read(b"E", &table, 9, b"b");
 }
 
@@ -256,14 +306,14 @@ fn run_t2_more() {
         &table,
         8,
         &best,
-        b"\x00\x00",
+        b"\x00\x00\x00\x00",
     );
 }
 
 fn run_t3() {
     let table = t3();
     run_check(b"T3", &table);
-    run_spell(b"H", &table, 1, b"\x05\x01\x00\x00");
+    run_spell(b"H", &table, 1, b"\x05\x01\x00\x01\x00\x00\x00\x00");
     run_read(b"I", &table, 1, b"");
 }
 
@@ -271,7 +321,7 @@ fn run_t4() {
     let table = t4();
     run_check(b"T4", &table);
     run_read(b"J", &table, 0, b"");
-    run_tokens(b"J tokens", &table, 0, b"\x00\x00");
+    run_tokens(b"J tokens", &table, 0, b"\x00\x00\x00\x00");
 }
 
 fn run_remark() {
@@ -291,7 +341,7 @@ fn run_no_byte() {
     run_read(b"NoByte, no byte", &table, 0, b"");
     run_read(b"NoByte, byte 0", &table, 0, b"\x00");
     run_read(b"NoByte, byte 255", &table, 0, b"\xff");
-    run_spell(b"NoByte spelled", &table, 0, b"\x01\xff");
+    run_spell(b"NoByte spelled", &table, 0, b"\x01\xff\x01\x00");
 }
 
 fn run_all_but_5() {
@@ -300,7 +350,7 @@ fn run_all_but_5() {
     run_read(b"AllBut5, byte 4", &table, 0, b"\x04");
     run_read(b"AllBut5, byte 5", &table, 0, b"\x05");
     run_read(b"AllBut5, byte 6", &table, 0, b"\x06");
-    run_spell(b"AllBut5 spelled", &table, 0, b"\x01\x05");
+    run_spell(b"AllBut5 spelled", &table, 0, b"\x01\x05\x01\x00");
 }
 
 fn run_refused() {
@@ -323,7 +373,7 @@ fn run_blank() {
 }
 
 fn run_compile(name: &[u8], text: &[u8]) {
-    let mut out = [0xeeu8; 32];
+    let mut out = [0xeeu8; 52];
     io::write_all(STDOUT_FILENO, name);
     show_answer(notation::compile(text, &mut out));
     show_bytes(&out);
@@ -342,7 +392,7 @@ fn run_t1_written(table: &[u8]) {
     run_read(b"B by the text", table, 9, b"ab");
     run_read(b"C by the text", table, 9, b"abc");
     run_read(b"D by the text", table, 9, b"abcab");
-    run_tokens(b"D tokens by the text", table, 9, &d_reading());
+    run_tokens(b"D tokens by the text", table, 9, &d_written());
     run_read(b"E by the text", table, 9, b"b");
 }
 
@@ -365,6 +415,8 @@ fn run_written() {
 
 fn main() {
     run_t1();
+    run_t1_unfit();
+    run_t1_unfit_compared();
     run_t1_more();
     run_t2();
     run_t2_more();

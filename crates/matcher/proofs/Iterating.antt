@@ -16,7 +16,8 @@ use Rattle.table.specs.Records.{count, kindAt, aAt}
 use Rattle.table.specs.Expression.{expOf}
 use Rattle.rows.specs.Layout.{areaSize}
 use Rattle.area.specs.Area.{part}
-use Rattle.reading.specs.Codec.{iterations, encode, encodeItems}
+use Rattle.reading.specs.Codec.{argumentOf, encodeBelow, encode}
+use Rattle.reading.proofs.ByteLists.{iterations-bound}
 use Rattle.matcher.specs.Walks.{Here, Room, Stored, LongestCut, Given, Walked, Counted}
 use Rattle.matcher.proofs.Parts.{part-length, part-zero}
 use Rattle.matcher.proofs.Cuts.{CutReading, star-reading}
@@ -25,12 +26,6 @@ use Rattle.matcher.proofs.Storing.{stored-none, stored-join, room-first
 use Rattle.matcher.proofs.Positions.{reading, star-a, star-exp, cut-largest, first-here, second-here}
 use Rattle.matcher.proofs.Walking.{given-by, walked-by}
 
--- a reading has at most one iteration for each byte
-iterations-bound : {r : Exp} {v : Val} → Reads (star r) v → iterations v ≤ length (flat v)
-iterations-bound reads-none = omega arith
-iterations-bound (reads-more {v = v} {w = w} p n q) =
-    omega (arith, iterations-bound q, length-pos (flat v) n, length-append (flat v) (flat w))
-
 module _
     {t s w : List ℕ} {k d e a : ℕ} (h : Here t s w k d e) (q : a ≡ aAt t k) (z : kindAt t k ≡ 5) {v : Val}
     (p : Posix (part s d e) (expOf t k) v)
@@ -38,7 +33,7 @@ module _
     read-star : Posix (part s d e) (star (expOf t a)) v
     read-star = subst (λ (r : Exp). Posix (part s d e) r v) (star-exp h q z) p
 
-    iterations-fit : iterations v ≤ e
+    iterations-fit : argumentOf v ≤ e
     iterations-fit = omega (arith, iterations-bound (posix-reads read-star), ap length (posix-flat p), part-length s d e (h .left) (h .size))
 
     -- no byte is left
@@ -65,7 +60,7 @@ pub record Counting (t s w : List ℕ) (k d e left size times : ℕ) : Type 0 wh
   pub rest : Val
   pub whole : Posix (part s d e) (expOf t k) value
   pub rest-read : Posix (part s left size) (expOf t k) rest
-  pub counted : times + iterations rest ≡ iterations value
+  pub counted : times + argumentOf rest ≡ argumentOf value
   pub small : times + size ≤ 255
 
 pub counting-none : {t s w : List ℕ} {k d e : ℕ} → Here t s w k d e → Counting t s w k d e d e 0
@@ -92,7 +87,7 @@ module _ {t s w : List ℕ} {k d e left size times : ℕ} (c : Counting t s w k 
         rest = y .v2;
         whole = c .whole;
         rest-read = subst (λ (r : Exp). Posix (part s (left - cut) (size - cut)) r (y .v2)) (sym (star-exp (c .here) q z)) (y .second);
-        counted = omega (arith, c .counted, ap iterations (y .value));
+        counted = omega (arith, c .counted, ap argumentOf (y .value));
         small = omega (arith, c .small, x .found .inside);
       }
 
@@ -100,8 +95,8 @@ module _ {t s w : List ℕ} {k d e left size times : ℕ} (c : Counting t s w k 
   counting-end n0 =
       record {
         counted = λ v o.
-            let n : iterations (c .rest) ≡ 0 = ap iterations (star-none (c .here) q z (c .rest-read) n0) in
-            let m : iterations (c .value) ≡ iterations v = ap iterations (posix-unique (c .whole) o) in
+            let n : argumentOf (c .rest) ≡ 0 = ap argumentOf (star-none (c .here) q z (c .rest-read) n0) in
+            let m : argumentOf (c .value) ≡ argumentOf v = ap argumentOf (posix-unique (c .whole) o) in
             omega (arith, c .counted);
       }
 
@@ -113,12 +108,12 @@ pub record Iterating (t s w : List ℕ) (k d e : ℕ) (out : List ℕ) (at : ℕ
   pub done : List ℕ
   pub whole : Posix (part s d e) (expOf t k) value
   pub rest-read : Posix (part s left size) (expOf t k) rest
-  pub items : encodeItems value ≡ done ++ encodeItems rest
+  pub items : encodeBelow t k value ≡ done ++ encodeBelow t k rest
   pub stored : Stored done out at b out1 next
-  pub room : Room (encodeItems value) out at b
+  pub room : Room (encodeBelow t k value) out at b
 
 pub iterating-none :
-    {t s w : List ℕ} {k d e : ℕ} {out : List ℕ} {at : ℕ} {b : Bool} → Given encodeItems t s w k d e out at b
+    {t s w : List ℕ} {k d e : ℕ} {out : List ℕ} {at : ℕ} {b : Bool} → Given (encodeBelow t k) t s w k d e out at b
     → Iterating t s w k d e out at b d e out at
 iterating-none {out = out} {at = at} {b = b} g =
     record {
@@ -137,38 +132,40 @@ module _
     {t s w : List ℕ} {k d e : ℕ} {out : List ℕ} {at : ℕ} {b : Bool} {left size : ℕ} {out1 : List ℕ} {next : ℕ}
     (c : Iterating t s w k d e out at b left size out1 next) {a : ℕ} (q : a ≡ aAt t k) (z : kindAt t k ≡ 5)
   where
-    pub iterating-end : size ≡ 0 → Walked encodeItems t s k d e out at b out1 next
+    pub iterating-end : size ≡ 0 → Walked (encodeBelow t k) t s k d e out at b out1 next
     iterating-end o =
-        let n : encodeItems (c .rest) ≡ [] = ap encodeItems (star-none (c .here) q z (c .rest-read) o) in
-        let all : c .done ≡ encodeItems (c .value) = sym (append-nil (c .done)) ∙ ap (λ (bs : List ℕ). c .done ++ bs) (sym n) ∙ sym (c .items) in
+        let n : encodeBelow t k (c .rest) ≡ [] = ap (encodeBelow t k) (star-none (c .here) q z (c .rest-read) o) in
+        let all : c .done ≡ encodeBelow t k (c .value) = sym (append-nil (c .done)) ∙ ap (λ (bs : List ℕ). c .done ++ bs) (sym n) ∙ sym (c .items) in
         walked-by (c .value) (c .whole) (subst (λ (bs : List ℕ). Stored bs out at b out1 next) all (c .stored))
 
     module _ {low cut : ℕ} (l : 1 ≤ cut) (x : LongestCut (count t) w a k left size low cut) where
       y : CutReading more (expOf t a) (star (expOf t a)) s left size cut (c .rest)
       y = star-cut-reading (c .here) q z (c .rest-read) l x
 
-      split : encodeItems (c .value) ≡ c .done ++ (encode (y .v1) ++ encodeItems (y .v2))
-      split = c .items ∙ ap (λ (v : Val). c .done ++ encodeItems v) (y .value)
+      split : encodeBelow t k (c .value) ≡ c .done ++ (encode t a (y .v1) ++ encodeBelow t k (y .v2))
+      split =
+          c .items ∙ ap (λ (v : Val). c .done ++ encodeBelow t k v) (y .value)
+          ∙ ap (λ (i : ℕ). c .done ++ (encode t i (y .v1) ++ encodeBelow t k (y .v2))) (sym q)
 
       -- what the walk of the first iteration is given
-      pub iterating-first : areaSize (count t) (length s) ≤ length w → Given encode t s w a left cut out1 next b
+      pub iterating-first : areaSize (count t) (length s) ≤ length w → Given (encode t a) t s w a left cut out1 next b
       iterating-first o =
           given-by (y .v1) (first-here (c .here) (omega (arith, star-a (c .here) q z, c .here .record-inside)) (x .found)) o (y .first)
-          (room-first (encode (y .v1)) (encodeItems (y .v2))
-          (room-rest (c .done) (encode (y .v1) ++ encodeItems (y .v2)) (subst (λ (bs : List ℕ). Room bs out at b) split (c .room)) (c .stored)))
+          (room-first (encode t a (y .v1)) (encodeBelow t k (y .v2))
+          (room-rest (c .done) (encode t a (y .v1) ++ encodeBelow t k (y .v2)) (subst (λ (bs : List ℕ). Room bs out at b) split (c .room)) (c .stored)))
 
       pub iterating-more :
-          {out2 : List ℕ} {n : ℕ} → Walked encode t s a left cut out1 next b out2 n
+          {out2 : List ℕ} {n : ℕ} → Walked (encode t a) t s a left cut out1 next b out2 n
           → Iterating t s w k d e out at b (left - cut) (size - cut) out2 n
       iterating-more o =
           record {
             here = second-here (c .here) (c .here .record-inside) (x .found);
             value = c .value;
             rest = y .v2;
-            done = c .done ++ encode (y .v1);
+            done = c .done ++ encode t a (y .v1);
             whole = c .whole;
             rest-read = subst (λ (r : Exp). Posix (part s (left - cut) (size - cut)) r (y .v2)) (sym (star-exp (c .here) q z)) (y .second);
-            items = split ∙ sym (append-assoc (c .done) (encode (y .v1)) (encodeItems (y .v2)));
+            items = split ∙ sym (append-assoc (c .done) (encode t a (y .v1)) (encodeBelow t k (y .v2)));
             stored = stored-join (c .stored) (o .stored (y .v1) (y .first));
             room = c .room;
           }

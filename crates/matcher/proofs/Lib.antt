@@ -8,6 +8,5 @@ pub mod Searching
 pub mod Walking
 pub mod Iterating
 pub mod Answering
-pub mod ByteLists
 pub mod Rivals
 pub mod Outcomes

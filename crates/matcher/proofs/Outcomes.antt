@@ -8,14 +8,14 @@ use mathlib.Core.Path.{_≡_, refl, sym, _∙_, ap, subst}
 use mathlib.Core.Bool.{Bool, true, false, true≢false}
 use mathlib.Core.List.{List, _++_}
 use lib.Dec.{ltb}
-use lib.ListN.{length, drop}
+use lib.ListN.{length, getD, drop}
 use Rattle.regex.specs.Expressions.{Exp}
-use Rattle.regex.specs.Values.{Val, records, Reads}
+use Rattle.regex.specs.Values.{Val, flat, records, Reads}
 use Rattle.regex.specs.Relation.{Posix}
 use Rattle.regex.specs.Decision.{Parsed, missing, parse}
 use Rattle.regex.specs.Spells.{spells}
 use Rattle.regex.proofs.Spells.{spells-complete}
-use Rattle.regex.proofs.Flats.{posix-reads}
+use Rattle.regex.proofs.Flats.{posix-flat, posix-reads}
 use Rattle.regex.proofs.Ahead.{posix-unbeaten}
 use Rattle.regex.proofs.Found.{parse-found, parse-none}
 use Rattle.table.specs.declared.Refusal.{Refusal}
@@ -66,7 +66,7 @@ refused :
 unfolding readLeaves
 refused t k s work out work1 e f kept =
     let left : out ≡ readLeaves t k s (length work) out =
-    sym (ap (λ (x : Said). after x (bytesOf (parse (expOf t k) s) (λ v. encode v)) out) f) in (
+    sym (ap (λ (x : Said). after x (bytesOf (parse (expOf t k) s) (λ v. encode t k v)) out) f) in (
       e ∙ sym f,
       (
         left,
@@ -90,7 +90,7 @@ outcome-table t k s work out {r} why e f =
     let g : refusal why ≡ readSays t k s (length work) (length out) =
     not-admitted t k r why e f
     (orElse (ltb 255 (length s)) (refuses 7 0)
-    (orElse (ltb (length work) (workSize (count t) (length s))) (refuses 10 0) (readParsed (parse (expOf t k) s) (length out)))) in
+    (orElse (ltb (length work) (workSize (count t) (length s))) (refuses 10 0) (readParsed t k (parse (expOf t k) s) (length out)))) in
     refused t k s work out work (x .2) (sym g ∙ x .2) (λ h. refl)
 
 -- a result says that there was room
@@ -99,9 +99,12 @@ room-gives true l m n e = absurd (refuses-gives refl e)
 room-gives false l m n e = (refl, cc)
 
 -- the bytes in front of a buffer are the encoding of one reading only
-same-reading : (r : Exp) {v w : Val} (xs ys : List ℕ) → Reads r v → Reads r w → encode v ++ xs ≡ encode w ++ ys → v ≡ w
-same-reading r {v} {w} xs ys p q e =
-    let f : fits v xs ≡ fits w ys = sym (decode-complete r p xs) ∙ ap (decode r) e ∙ decode-complete r q ys in
+same-reading :
+    (t : List ℕ) (k : ℕ) (r : Exp) {v w : Val} (xs ys : List ℕ) → Reads r v → Reads r w → length (flat v) ≤ 255 → encode t k v ++ xs ≡ encode t k w ++ ys
+    → v ≡ w
+same-reading t k r {v} {w} xs ys p q h e =
+    let i : length (flat w) ≡ length (flat v) = ap (λ (bs : List ℕ). getD bs 2 0) (sym e) in
+    let f : fits v xs ≡ fits w ys = sym (decode-complete t k r p h xs) ∙ ap (decode t k r) e ∙ decode-complete t k r q (omega arith) ys in
     cc
 
 -- the answer for a spelled line, by its POSIX reading
@@ -109,25 +112,26 @@ module _
     {t : List ℕ} {k : ℕ} {s out out1 : List ℕ} {said : Said} {v : Val} (w : Answered t s k out out1 said) (p : Posix s (expOf t k) v) {n : ℕ}
     (e : said ≡ gives n)
   where
-    gave : (ltb (length out) (length (encode v)) ≡ false) × (n ≡ records v)
-    gave = room-gives (ltb (length out) (length (encode v))) (length (encode v)) (records v) n (sym (w .answer v p) ∙ e)
+    gave : (ltb (length out) (length (encode t k v)) ≡ false) × (n ≡ records v)
+    gave = room-gives (ltb (length out) (length (encode t k v))) (length (encode t k v)) (records v) n (sym (w .answer v p) ∙ e)
 
-    in-front : out1 ≡ encode v ++ drop (length (encode v)) out
+    in-front : out1 ≡ encode t k v ++ drop (length (encode t k v)) out
     in-front =
         w .buffer v p
-        ∙ ap (λ (b : Bool). after (orElse b (refuses 11 (length (encode v))) (gives (records v))) (encode v) out) (gave .0)
+        ∙ ap (λ (b : Bool). after (orElse b (refuses 11 (length (encode t k v))) (gives (records v))) (encode t k v) out) (gave .0)
 
     -- it is the relation's
     posix-written : PosixWritten t k s out out1 n
     posix-written = record { value = v; posix = p; counted = gave .1; written = in-front }
 
     -- and no other ranks ahead of it
-    unbeaten : Unbeaten t k s out out1
-    unbeaten =
+    unbeaten : length s ≤ 255 → Unbeaten t k s out out1
+    unbeaten short =
         record {
           none-ahead = λ u q f bs rival spells-line.
               let same : v ≡ u =
-              same-reading (expOf t k) (drop (length (encode v)) out) (drop (length (encode u)) out) (posix-reads p) q (sym in-front ∙ f) in
+              same-reading t k (expOf t k) (drop (length (encode t k v)) out) (drop (length (encode t k u)) out) (posix-reads p) q (rw (posix-flat p) short)
+              (sym in-front ∙ f) in
               posix-unbeaten (subst (λ (x : Val). Posix s (expOf t k) x) same p) (rival .reads) (sym (spelled-fits rival) ∙ spells-line);
         }
 
@@ -145,7 +149,7 @@ module _ {t : List ℕ} {k : ℕ} (a : Admitted t k) where
     said-admitted :
         readSays t k s (length work) (length out)
         ≡ orElse (ltb 255 (length s)) (refuses 7 0)
-        (orElse (ltb (length work) (workSize (count t) (length s))) (refuses 10 0) (readParsed (parse (expOf t k) s) (length out)))
+        (orElse (ltb (length work) (workSize (count t) (length s))) (refuses 10 0) (readParsed t k (parse (expOf t k) s) (length out)))
     unfolding readSays
     said-admitted = a .said-on _
 
@@ -194,7 +198,7 @@ module _ {t : List ℕ} {k : ℕ} {s work : List ℕ} (r : Ready t k s work) whe
         }
 
   module _ (out : List ℕ) where
-    said-parsed : readSays t k s (length work) (length out) ≡ readParsed (parse (expOf t k) s) (length out)
+    said-parsed : readSays t k s (length work) (length out) ≡ readParsed t k (parse (expOf t k) s) (length out)
     said-parsed =
         let enough : workSize (count t) (length s) ≤ length work = omega (arith, r .large, areaSize-formula (count t) (length s)) in
         said-admitted (r .admitted) s work out
@@ -205,16 +209,16 @@ module _ {t : List ℕ} {k : ℕ} {s work : List ℕ} (r : Ready t k s work) whe
     outcome-missing work1 f =
         let none : parse (expOf t k) s ≡ missing =
         parse-none (expOf t k) s .1 (λ l. true≢false (sym (spells-complete (expOf t k) s l) ∙ f)) in
-        refused t k s work out work1 refl (said-parsed ∙ ap (λ (p : Parsed). readParsed p (length out)) none)
+        refused t k s work out work1 refl (said-parsed ∙ ap (λ (p : Parsed). readParsed t k p (length out)) none)
         (λ h. absurd (true≢false (sym h)))
 
     leaves :
-        (v : Val) → Posix s (expOf t k) v → readSays t k s (length work) (length out) ≡ ifRoom (length out) (encode v) (records v)
-        → readLeaves t k s (length work) out ≡ after (ifRoom (length out) (encode v) (records v)) (encode v) out
+        (v : Val) → Posix s (expOf t k) v → readSays t k s (length work) (length out) ≡ ifRoom (length out) (encode t k v) (records v)
+        → readLeaves t k s (length work) out ≡ after (ifRoom (length out) (encode t k v) (records v)) (encode t k v) out
     unfolding readLeaves
     leaves v p e =
-        ap (λ (x : Said). after x (bytesOf (parse (expOf t k) s) (λ u. encode u)) out) e
-        ∙ ap (λ (x : Parsed). after (ifRoom (length out) (encode v) (records v)) (bytesOf x (λ u. encode u)) out) (parse-found (expOf t k) s v .1 p)
+        ap (λ (x : Said). after x (bytesOf (parse (expOf t k) s) (λ u. encode t k u)) out) e
+        ∙ ap (λ (x : Parsed). after (ifRoom (length out) (encode t k v) (records v)) (bytesOf x (λ u. encode t k u)) out) (parse-found (expOf t k) s v .1 p)
 
     -- 11, or the reading
     pub outcome-answered :
@@ -225,17 +229,17 @@ module _ {t : List ℕ} {k : ℕ} {s work : List ℕ} (r : Ready t k s work) whe
       where
         answered : (v : Val) → Posix s (expOf t k) v → Outcome t k s work out work1 out1 said
         answered v p =
-            let says-room : readSays t k s (length work) (length out) ≡ ifRoom (length out) (encode v) (records v) =
-            said-parsed ∙ ap (λ (x : Parsed). readParsed x (length out)) (parse-found (expOf t k) s v .1 p) in (
+            let says-room : readSays t k s (length work) (length out) ≡ ifRoom (length out) (encode t k v) (records v) =
+            said-parsed ∙ ap (λ (x : Parsed). readParsed t k x (length out)) (parse-found (expOf t k) s v .1 p) in (
               w .answer v p ∙ sym says-room,
               (
                 w .buffer v p ∙ sym (leaves v p says-room),
                 (
-                  (λ g. absurd (room-keeps (ltb (length out) (length (encode v))) (length (encode v)) (records v) (ap keepsWork (sym says-room) ∙ g))),
+                  (λ g. absurd (room-keeps (ltb (length out) (length (encode t k v))) (length (encode t k v)) (records v) (ap keepsWork (sym says-room) ∙ g))),
                   (
                     (λ n g. posix-written w p g),
                     (
-                      (λ n g. unbeaten w p g),
+                      (λ n g. unbeaten w p g (r .short)),
                       outranks t k s (length work) out (w .answer v p ∙ sym says-room) (w .buffer v p ∙ sym (leaves v p says-room)),
                     ),
                   ),

@@ -1,12 +1,13 @@
 -- Bytes stored one after the other: room for the parts, and the parts joined.
 -- Assumes nothing.
-use Prim.Native.Nat.{ℕ, _+_}
-use native.Mathlib.Numerals.{add-one}
+use Prim.Native.Nat.{ℕ, _+_, _≤_}
 use native.Mathlib.Omega.{arith}
 use mathlib.Core.Path.{_≡_, refl, sym, _∙_, ap}
 use mathlib.Core.Bool.{Bool, true, false}
 use mathlib.Core.List.{List, [], _∷_, _++_}
-use lib.ListN.{length, set, length-append}
+use lib.ListN.{length, length-append}
+use lib.Seq.{sets}
+use Rattle.reading.specs.Codec.{recordSize, recordWith}
 use Rattle.reading.specs.Writing.{wrote}
 use Rattle.reading.proofs.Writing.{wrote-more, wrote-length}
 use Rattle.matcher.specs.Walks.{Room, Stored}
@@ -16,20 +17,17 @@ pub stored-none : (o : List ℕ) (at : ℕ) (b : Bool) → Stored [] o at b o at
 stored-none o at true = record { next = omega arith; buffer = refl }
 stored-none o at false = record { next = omega arith; buffer = refl }
 
--- one record is stored, or counted
-pub stored-record :
-    (x y : ℕ) (o : List ℕ) (at : ℕ) {b : Bool} → b ≡ true → {o1 : List ℕ} → o1 ≡ set (set o at x) (at + 1) y
-    → Stored (x ∷ y ∷ []) o at b o1 (at + 2)
-stored-record x y o at {b} e f =
-    record {
-      next = refl;
-      buffer = f ∙ ap (λ (i : ℕ). set (set o at x) i y) (add-one at) ∙ ap (λ (z : Bool). wrote z o at (x ∷ y ∷ [])) (sym e);
-    }
+module _ (x y n k : ℕ) (o : List ℕ) (at : ℕ) {b : Bool} where
+  -- there is room for a record that is to be stored
+  pub record-room : b ≡ true → Room (recordWith x y n k) o at b → at + recordSize ≤ length o
+  record-room e r = omega (arith, r .inside e)
 
-pub counted-record :
-    (x y : ℕ) (o : List ℕ) (at : ℕ) {b : Bool} → b ≡ false → {o1 : List ℕ} → o1 ≡ o → Stored (x ∷ y ∷ []) o at b o1 (at + 2)
-counted-record x y o at {b} e f =
-    record { next = refl; buffer = f ∙ ap (λ (z : Bool). wrote z o at (x ∷ y ∷ [])) (sym e) }
+  -- one record is stored, or counted
+  pub stored-record : b ≡ true → {o1 : List ℕ} → o1 ≡ sets o at (recordWith x y n k) → Stored (recordWith x y n k) o at b o1 (at + recordSize)
+  stored-record e f = record { next = refl; buffer = f ∙ ap (λ (z : Bool). wrote z o at (recordWith x y n k)) (sym e) }
+
+  pub counted-record : b ≡ false → {o1 : List ℕ} → o1 ≡ o → Stored (recordWith x y n k) o at b o1 (at + recordSize)
+  counted-record e f = record { next = refl; buffer = f ∙ ap (λ (z : Bool). wrote z o at (recordWith x y n k)) (sym e) }
 
 module _ {xs o : List ℕ} {at : ℕ} {b : Bool} {o1 : List ℕ} {n : ℕ} (p : Stored xs o at b o1 n) where
   -- the buffer keeps its length

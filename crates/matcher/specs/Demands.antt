@@ -9,6 +9,7 @@ use Rattle.regex.specs.Language.{Bytes}
 use Rattle.table.specs.Records.{count}
 use Rattle.table.specs.Faults.{Passes}
 use Rattle.table.specs.Answers.{Said, gives, refuses}
+use Rattle.reading.specs.Codec.{recordSize}
 use Rattle.reading.specs.Fitting.{Fits, spelled}
 use Rattle.ranking.specs.Answers.{compareSays}
 use Rattle.matcher.specs.Calls.{workSize}
@@ -41,7 +42,7 @@ pub record ReadsBest (answered : Said → Type 0) (t : List ℕ) (k : ℕ) (s ou
   pub only : (bs : List ℕ) → Best t k s bs → bs ≡ reading
   pub too-short : (d : ℕ) → answered (refuses 11 d) ↔ ((length out < length reading) × (d ≡ length reading))
   pub records : ℕ
-  pub two-bytes-each : length reading ≡ 2 * records
+  pub whole-records : length reading ≡ recordSize * records
   pub written : length reading ≤ length out → answered (gives records) × (final ≡ reading ++ drop (length reading) out)
 
 -- demand 3 of Read's answer and of the buffer's bytes: 8 exactly when no byte sequence fits the start record and spells the line, otherwise

@@ -14,13 +14,13 @@ use Rattle.table.specs.Answers.{Said}
 use Rattle.table.specs.Expression.{expOf}
 use Rattle.rows.specs.Layout.{areaSize, tells}
 use Rattle.area.specs.Area.{part, Told}
-use Rattle.reading.specs.Codec.{iterations, encode}
+use Rattle.reading.specs.Codec.{recordSize, argumentOf, encode}
 use Rattle.table.specs.Buffers.{ifRoom, after}
 use Rattle.reading.specs.Writing.{wrote}
 
--- the bytes of the largest reading of a line of n bytes by a table of m records: "m times max(n, 1)" records of two bytes
+-- the bytes of the largest reading of a line of n bytes by a table of m records: "m times max(n, 1)" records
 abbrev pub mostBytes : ℕ → ℕ → ℕ
-mostBytes m n = 2 * (m * max n 1)
+mostBytes m n = recordSize * (m * max n 1)
 
 -- record k spells the first e of the last d bytes of the line, and the area tells the truth
 pub record Here (t s w : List ℕ) (k d e : ℕ) : Type 0 where
@@ -79,9 +79,9 @@ pub record Walked (f : Val → List ℕ) (t s : List ℕ) (k d e : ℕ) (out : L
 
 -- how many iterations the POSIX reading of a Star's part has
 pub record Counted (t s : List ℕ) (k d e times : ℕ) : Type 0 where
-  pub counted : (v : Val) → Posix (part s d e) (expOf t k) v → times ≡ iterations v
+  pub counted : (v : Val) → Posix (part s d e) (expOf t k) v → times ≡ argumentOf v
 
 -- the answer for a line that record k spells: 11 and nothing changed, or the record count and the bytes of the POSIX reading
 pub record Answered (t s : List ℕ) (k : ℕ) (out final : List ℕ) (said : Said) : Type 0 where
-  pub answer : (v : Val) → Posix s (expOf t k) v → said ≡ ifRoom (length out) (encode v) (records v)
-  pub buffer : (v : Val) → Posix s (expOf t k) v → final ≡ after (ifRoom (length out) (encode v) (records v)) (encode v) out
+  pub answer : (v : Val) → Posix s (expOf t k) v → said ≡ ifRoom (length out) (encode t k v) (records v)
+  pub buffer : (v : Val) → Posix s (expOf t k) v → final ≡ after (ifRoom (length out) (encode t k v) (records v)) (encode t k v) out

@@ -2,31 +2,41 @@
 // and the whole line down to single bytes and stores the records of the reading on its way. A position of the walk is a record k and the
 // first e of the last d bytes of the line.
 
-ghost use Prim.Native.Nat.{ℕ, _≤_};
+ghost use Prim.Native.Nat.{ℕ, _≤_, _<_};
 ghost use mathlib.Core.Path.{_≡_};
 ghost use mathlib.Core.Bool.{true};
-ghost use mathlib.Core.List.{_∷_, []};
 ghost use lib.ListN.{length};
 ghost use Rattle.table.specs.Records.{count, kindAt, isLetter};
 ghost use Rattle.table.specs.Answers.{says, gives};
 ghost use Rattle.rows.specs.Layout.{areaSize};
-ghost use Rattle.reading.specs.Codec.{encode, encodeItems};
+ghost use Rattle.reading.specs.Codec.{recordWith, encodeBelow, encode};
 ghost use Rattle.matcher.specs.Calls.{readSays, readLeaves, keepsWork, PosixWritten, Unbeaten};
 ghost use Rattle.matcher.specs.Demands.{Setting, NoneOutranks};
 ghost use Rattle.matcher.specs.Walks.{mostBytes, Here, Room, Stored, Searched, LongestCut, Given, Walked, Counted, Answered};
+use reading::Place;
 use table::Answer;
 use table::Refusal;
 
 // Stores a record at a position of the buffer, or only counts it, and returns the position behind it.
-fn put(out: &mut [u8], at: usize, kind: u8, argument: u8, writing: bool) -> usize
-    requires { ⌜ Room (kind ∷ argument ∷ []) (now out) at writing ⌝ }
-    ensures { λ r. ⌜ Stored (kind ∷ argument ∷ []) (now (out .entry)) at writing (now (out .exit)) r ⌝ }
+fn put(
+    out: &mut [u8],
+    at: usize,
+    kind: u8,
+    argument: u8,
+    size: usize,
+    number: usize,
+    writing: bool,
+) -> usize
+    requires room { ⌜ Room (recordWith kind argument size number) (now out) at writing ⌝ }
+    requires bytes { ⌜ (size < 256) × (number < 256) ⌝ }
+    ensures { λ r. ⌜ Stored (recordWith kind argument size number) (now (out .entry)) at writing (now (out .exit)) r ⌝ }
 {
+    let next = at + Place::RECORD;
     if writing {
-        out[at] = kind;
-        out[at + 1] = argument;
+        reading::store_record(out, at, kind, argument, size, number);
+        return next;
     }
-    at + 2
+    next
 }
 
 // The longest first part, of at least `lowest` bytes, that record a spells and whose rest record b spells.
@@ -87,11 +97,11 @@ fn walk_empty(
     at: usize,
     writing: bool,
 ) -> usize
-    requires { ⌜ Given encode (now table) (now line) (now work) k d e (now out) at writing ⌝ }
+    requires { ⌜ Given (encode (now table) k) (now table) (now line) (now work) k d e (now out) at writing ⌝ }
     requires { ⌜ kindAt (now table) k ≡ 1 ⌝ }
-    ensures { λ r. ⌜ Walked encode (now (table .entry)) (now (line .entry)) k d e (now (out .entry)) at writing (now (out .exit)) r ⌝ }
+    ensures { λ r. ⌜ Walked (encode (now (table .entry)) k) (now (table .entry)) (now (line .entry)) k d e (now (out .entry)) at writing (now (out .exit)) r ⌝ }
 {
-    put(out, at, 0, 0, writing)
+    put(out, at, 0, 0, e, k, writing)
 }
 
 // A letter's part: Byte.
@@ -106,12 +116,12 @@ fn walk_letter(
     at: usize,
     writing: bool,
 ) -> usize
-    requires { ⌜ Given encode (now table) (now line) (now work) k d e (now out) at writing ⌝ }
+    requires { ⌜ Given (encode (now table) k) (now table) (now line) (now work) k d e (now out) at writing ⌝ }
     requires { ⌜ isLetter (now table) k ≡ true ⌝ }
-    ensures { λ r. ⌜ Walked encode (now (table .entry)) (now (line .entry)) k d e (now (out .entry)) at writing (now (out .exit)) r ⌝ }
+    ensures { λ r. ⌜ Walked (encode (now (table .entry)) k) (now (table .entry)) (now (line .entry)) k d e (now (out .entry)) at writing (now (out .exit)) r ⌝ }
 {
     let c = line[line.len() - d];
-    put(out, at, 1, c, writing)
+    put(out, at, 1, c, e, k, writing)
 }
 
 // An Or's part: Left where the first child spells it, otherwise Right.
@@ -126,18 +136,18 @@ fn walk_or(
     at: usize,
     writing: bool,
 ) -> usize
-    requires { ⌜ Given encode (now table) (now line) (now work) k d e (now out) at writing ⌝ }
+    requires { ⌜ Given (encode (now table) k) (now table) (now line) (now work) k d e (now out) at writing ⌝ }
     requires { ⌜ kindAt (now table) k ≡ 3 ⌝ }
-    ensures { λ r. ⌜ Walked encode (now (table .entry)) (now (line .entry)) k d e (now (out .entry)) at writing (now (out .exit)) r ⌝ }
+    ensures { λ r. ⌜ Walked (encode (now (table .entry)) k) (now (table .entry)) (now (line .entry)) k d e (now (out .entry)) at writing (now (out .exit)) r ⌝ }
 {
     let m = table.len() / 4;
     let a = table::a_at(table, k) as usize;
     let b = table::b_at(table, k) as usize;
     if rows::tell(work, m, a, d, e) {
-        let next = put(out, at, 2, 0, writing);
+        let next = put(out, at, 2, 0, e, k, writing);
         return walk(table, a, line, work, d, e, out, next, writing);
     }
-    let next = put(out, at, 3, 0, writing);
+    let next = put(out, at, 3, 0, e, k, writing);
     walk(table, b, line, work, d, e, out, next, writing)
 }
 
@@ -153,15 +163,15 @@ fn walk_seq(
     at: usize,
     writing: bool,
 ) -> usize
-    requires { ⌜ Given encode (now table) (now line) (now work) k d e (now out) at writing ⌝ }
+    requires { ⌜ Given (encode (now table) k) (now table) (now line) (now work) k d e (now out) at writing ⌝ }
     requires { ⌜ kindAt (now table) k ≡ 4 ⌝ }
-    ensures { λ r. ⌜ Walked encode (now (table .entry)) (now (line .entry)) k d e (now (out .entry)) at writing (now (out .exit)) r ⌝ }
+    ensures { λ r. ⌜ Walked (encode (now (table .entry)) k) (now (table .entry)) (now (line .entry)) k d e (now (out .entry)) at writing (now (out .exit)) r ⌝ }
 {
     let m = table.len() / 4;
     let a = table::a_at(table, k) as usize;
     let b = table::b_at(table, k) as usize;
     let first = longest_first_part(work, m, a, b, d, e, 0);
-    let next = put(out, at, 4, 0, writing);
+    let next = put(out, at, 4, 0, e, k, writing);
     let middle = walk(table, a, line, work, d, first, out, next, writing);
     walk(
         table,
@@ -188,12 +198,12 @@ fn walk_star(
     at: usize,
     writing: bool,
 ) -> usize
-    requires { ⌜ Given encode (now table) (now line) (now work) k d e (now out) at writing ⌝ }
+    requires { ⌜ Given (encode (now table) k) (now table) (now line) (now work) k d e (now out) at writing ⌝ }
     requires { ⌜ kindAt (now table) k ≡ 5 ⌝ }
-    ensures { λ r. ⌜ Walked encode (now (table .entry)) (now (line .entry)) k d e (now (out .entry)) at writing (now (out .exit)) r ⌝ }
+    ensures { λ r. ⌜ Walked (encode (now (table .entry)) k) (now (table .entry)) (now (line .entry)) k d e (now (out .entry)) at writing (now (out .exit)) r ⌝ }
 {
     let times = count_iterations(table, k, line, work, d, e);
-    let next = put(out, at, 5, times as u8, writing);
+    let next = put(out, at, 5, times as u8, e, k, writing);
     walk_iterations(table, k, line, work, d, e, out, next, writing)
 }
 
@@ -209,9 +219,9 @@ fn walk_iterations(
     at: usize,
     writing: bool,
 ) -> usize
-    requires { ⌜ Given encodeItems (now table) (now line) (now work) k d e (now out) at writing ⌝ }
+    requires { ⌜ Given (encodeBelow (now table) k) (now table) (now line) (now work) k d e (now out) at writing ⌝ }
     requires { ⌜ kindAt (now table) k ≡ 5 ⌝ }
-    ensures { λ r. ⌜ Walked encodeItems (now (table .entry)) (now (line .entry)) k d e (now (out .entry)) at writing (now (out .exit)) r ⌝ }
+    ensures { λ r. ⌜ Walked (encodeBelow (now (table .entry)) k) (now (table .entry)) (now (line .entry)) k d e (now (out .entry)) at writing (now (out .exit)) r ⌝ }
 {
     let m = table.len() / 4;
     let a = table::a_at(table, k) as usize;
@@ -239,8 +249,8 @@ fn walk(
     at: usize,
     writing: bool,
 ) -> usize
-    requires { ⌜ Given encode (now table) (now line) (now work) k d e (now out) at writing ⌝ }
-    ensures { λ r. ⌜ Walked encode (now (table .entry)) (now (line .entry)) k d e (now (out .entry)) at writing (now (out .exit)) r ⌝ }
+    requires { ⌜ Given (encode (now table) k) (now table) (now line) (now work) k d e (now out) at writing ⌝ }
+    ensures { λ r. ⌜ Walked (encode (now (table .entry)) k) (now (table .entry)) (now (line .entry)) k d e (now (out .entry)) at writing (now (out .exit)) r ⌝ }
 {
     let kind = table::kind_at(table, k);
     match kind {
@@ -260,9 +270,9 @@ fn most_bytes(m: usize, n: usize) -> usize
     ensures { λ r. ⌜ r ≡ mostBytes m n ⌝ }
 {
     if n == 0 {
-        return 2 * m;
+        return Place::RECORD * m;
     }
-    2 * (m * n)
+    Place::RECORD * (m * n)
 }
 
 // The answer for a line that the start record spells. Where the buffer holds the largest reading there can be, its reading is written at
@@ -275,14 +285,14 @@ fn write_reading(table: &[u8], start: usize, line: &[u8], work: &[u8], out: &mut
     let n = line.len();
     if most_bytes(table.len() / 4, n) <= out.len() {
         let end = walk(table, start, line, work, n, n, out, 0, true);
-        return Answer::Done(end / 2);
+        return Answer::Done(end / Place::RECORD);
     }
     let need = walk(table, start, line, work, n, n, out, 0, false);
     if out.len() < need {
         return Answer::Refused(Refusal::Buffer(need));
     }
     let end = walk(table, start, line, work, n, n, out, 0, true);
-    Answer::Done(end / 2)
+    Answer::Done(end / Place::RECORD)
 }
 
 // Read: writes the POSIX reading of the line by the start record to the front of the buffer and returns its record count.

@@ -1,13 +1,12 @@
 -- Compare's answer is document 01's precedence ("Precedence of readings").
 -- Assumes nothing.
-use Prim.Native.Nat.{ℕ, _≤_}
+use Prim.Native.Nat.{ℕ}
 use mathlib.Core.Path.{_≡_, refl, sym, _∙_, ap, ap₂, subst}
 use mathlib.Core.Bool.{true}
 use mathlib.Core.List.{List, [], _∷_}
 use mathlib.Core.Logic.{_↔_}
 use native.Mathlib.Omega.{arith}
-use borrow.Author.Tests.{le-ltb, eq-eqb}
-use lib.ListN.{length}
+use borrow.Author.Tests.{eq-eqb}
 use Rattle.regex.specs.Values.{flat}
 use Rattle.regex.specs.Decision.{found}
 use Rattle.regex.specs.Ranking.{Verdict, same, first, second, rank}
@@ -46,13 +45,11 @@ module _ {t : List ℕ} {k : ℕ} {bs cs : List ℕ} (o : OneLine t k bs cs) whe
   pub compare-ranks : compareSays t k bs cs ≡ gives (verdictNumber (rank (o .first .value) (o .second .value)))
   unfolding compareSays
   compare-ranks =
-      let a : length (flat (o .first .value)) ≤ 255 = rw (← spelled-fits (o .first)) (o .short) in
-      let b : length (flat (o .second .value)) ≤ 255 = rw (← lines) a in
       let e : sameLine (flat (o .first .value)) (flat (o .second .value)) ≡ true =
       ap (sameLine (flat (o .first .value))) (sym lines) ∙ sameLine-refl (flat (o .first .value)) in
       start-inside t k (o .passes) (o .inside) .said-on (compareParsed (readingOf t k bs) (readingOf t k cs))
       ∙ ap₂ compareParsed (fits-found (o .first)) (fits-found (o .second))
-      ∙ rw (le-ltb 255 (length (flat (o .first .value))) a, le-ltb 255 (length (flat (o .second .value))) b, e)
+      ∙ rw e
 
   answered : (d : Verdict) → (compareSays t k bs cs ≡ gives (verdictNumber d)) ↔ (rank (o .first .value) (o .second .value) ≡ d)
   answered d = (
@@ -73,7 +70,7 @@ module _ {t : List ℕ} {k : ℕ} {bs cs : List ℕ} (o : OneLine t k bs cs) whe
           λ a. answered second .1 (rank-second (o .first .reads) (o .second .reads) lines .1 a),
         );
         same-bytes = (
-          (λ e. o .first .encoded ∙ ap encode (rank-same (o .first .reads) (o .second .reads) lines .0 (answered same .0 e)) ∙ sym (o .second .encoded)),
+          (λ e. o .first .encoded ∙ ap (encode t k) (rank-same (o .first .reads) (o .second .reads) lines .0 (answered same .0 e)) ∙ sym (o .second .encoded)),
           λ e. answered same .1 (rank-same (o .first .reads) (o .second .reads) lines .1 (values e)),
         );
       }

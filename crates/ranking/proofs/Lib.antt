@@ -1,7 +1,5 @@
-pub mod Parts
-pub mod Comparing
+pub mod Records
 pub mod Verdicts
-pub mod Iterating
 pub mod Lines
 pub mod Answering
 pub mod CompareRanks

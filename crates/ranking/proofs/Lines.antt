@@ -32,20 +32,23 @@ pub match-start : (s u : List ℕ) → Matching s u 0
 match-start s u = record { inside = omega arith; one = refl }
 
 -- a byte of a buffer that starts with a line
-pub at-front : (out s rest : List ℕ) (i : ℕ) → out ≡ s ++ rest → i < length s → getD out i 0 ≡ getD s i 0
+at-front : (out s rest : List ℕ) (i : ℕ) → out ≡ s ++ rest → i < length s → getD out i 0 ≡ getD s i 0
 at-front out s rest i e h = ap (λ (z : List ℕ). getD z i 0) e ∙ List·getD-append s rest 0 i h
 
-module _ (s u : List ℕ) (i : ℕ) (w : Matching s u i) (e : length s ≡ length u) where
-  next-byte : i < length s → sameLine s u ≡ (eqb (getD s i 0) (getD u i 0) && sameLine (drop (i + 1) s) (drop (i + 1) u))
-  next-byte h =
-      let h′ : i < length u = omega arith in
-      sym (w .one) ∙ rw (add-one i, drop-cons s i 0 h, drop-cons u i 0 h′)
+module _ {s u : List ℕ} {i : ℕ} (w : Matching s u i) (e : length s ≡ length u) where
+  -- the next bytes, of buffers that start with the lines
+  module _ {a b : List ℕ} (rest over : List ℕ) (f : a ≡ s ++ rest) (g : b ≡ u ++ over) (h : i < length s) where
+    next-byte : sameLine s u ≡ (eqb (getD a i 0) (getD b i 0) && sameLine (drop (i + 1) s) (drop (i + 1) u))
+    next-byte =
+        let h′ : i < length u = omega arith in
+        sym (w .one)
+        ∙ rw (add-one i, drop-cons s i 0 h, drop-cons u i 0 h′, at-front a s rest i f h, at-front b u over i g h′)
 
-  pub match-differs : i < length s → ¬ (getD s i 0 ≡ getD u i 0) → false ≡ sameLine s u
-  match-differs h n = sym (next-byte h ∙ rw (ne-eqb (getD s i 0) (getD u i 0) n))
+    pub match-differs : ¬ (getD a i 0 ≡ getD b i 0) → false ≡ sameLine s u
+    match-differs n = sym (next-byte ∙ rw (ne-eqb (getD a i 0) (getD b i 0) n))
 
-  pub match-next : i < length s → getD s i 0 ≡ getD u i 0 → Matching s u (i + 1)
-  match-next h f = record { inside = omega arith; one = sym (next-byte h ∙ rw (eq-eqb (getD s i 0) (getD u i 0) f)) }
+    pub match-next : getD a i 0 ≡ getD b i 0 → Matching s u (i + 1)
+    match-next k = record { inside = omega arith; one = sym (next-byte ∙ rw (eq-eqb (getD a i 0) (getD b i 0) k)) }
 
   pub match-end : length s ≤ i → true ≡ sameLine s u
   match-end h = ends (drop i s) (drop i u) (omega (arith, length-drop i s)) (omega (arith, length-drop i u)) ∙ w .one

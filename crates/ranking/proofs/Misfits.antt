@@ -7,8 +7,6 @@ use mathlib.Core.Bool.{Bool, true, false, not}
 use mathlib.Core.List.{List}
 use mathlib.Core.Logic.{_↔_}
 use native.Mathlib.Omega.{arith}
-use lib.Dec.{ltb}
-use lib.ListN.{length}
 use Rattle.regex.specs.Values.{Val, flat}
 use Rattle.regex.specs.Decision.{Parsed, found, missing}
 use Rattle.regex.specs.Ranking.{rank}
@@ -21,17 +19,13 @@ use Rattle.reading.proofs.Fitting.{found-fits, missing-unfit}
 use Rattle.reading.proofs.Admission.{start-inside}
 use Rattle.ranking.specs.Answers.{verdictNumber, sameLine, compareValues, compareParsed, compareSays}
 
--- of two readings that fit, 13, 14 or a result is said
-not-12 :
-    (a b c : Bool) (n d : ℕ) → orElse a (refuses 13 0) (orElse b (refuses 13 1) (orElse c (refuses 14 0) (gives n))) ≡ refuses 12 d → ⊥
-not-12 true b c n d e = let z : _≡_ {A = ℕ} 13 12 = cc in omega arith
-not-12 false true c n d e = let z : _≡_ {A = ℕ} 13 12 = cc in omega arith
-not-12 false false true n d e = let z : _≡_ {A = ℕ} 14 12 = cc in omega arith
-not-12 false false false n d e = let z : _≡_ {A = ℕ} 0 1 = cc in omega arith
+-- of two readings that fit, 14 or a result is said
+not-12 : (c : Bool) (n d : ℕ) → orElse c (refuses 14 0) (gives n) ≡ refuses 12 d → ⊥
+not-12 true n d e = let z : _≡_ {A = ℕ} 14 12 = cc in omega arith
+not-12 false n d e = let z : _≡_ {A = ℕ} 0 1 = cc in omega arith
 
 both-fitting : (v w : Val) (d : ℕ) → compareValues v w ≡ refuses 12 d → ⊥
-both-fitting v w d =
-    not-12 (ltb 255 (length (flat v))) (ltb 255 (length (flat w))) (not (sameLine (flat v) (flat w))) (verdictNumber (rank v w)) d
+both-fitting v w d = not-12 (not (sameLine (flat v) (flat w))) (verdictNumber (rank v w)) d
 
 module _ (t : List ℕ) (k : ℕ) (bs cs : List ℕ) (p : Passes t) (l : k < count t) where
   said : compareSays t k bs cs ≡ compareParsed (readingOf t k bs) (readingOf t k cs)
@@ -44,9 +38,9 @@ module _ (t : List ℕ) (k : ℕ) (bs cs : List ℕ) (p : Passes t) (l : k < cou
   first-parsed missing (found w) e = ((λ _. missing-unfit t k bs e), λ _. refl)
   first-parsed (found v) missing e = (
     (λ f. let z : _≡_ {A = ℕ} 1 0 = cc in absurd (omega arith)),
-    λ n. absurd (n (found-fits t k bs v e)),
+    λ n. absurd (n (found-fits t k bs v e .0)),
   )
-  first-parsed (found v) (found w) e = ((λ f. absurd (both-fitting v w 0 f)), λ n. absurd (n (found-fits t k bs v e)))
+  first-parsed (found v) (found w) e = ((λ f. absurd (both-fitting v w 0 f)), λ n. absurd (n (found-fits t k bs v e .0)))
 
   second-parsed :
       (x y : Parsed) → readingOf t k bs ≡ x → readingOf t k cs ≡ y → (compareParsed x y ≡ refuses 12 1) ↔ (Fits t k bs × ¬ (Fits t k cs))
@@ -58,8 +52,8 @@ module _ (t : List ℕ) (k : ℕ) (bs cs : List ℕ) (p : Passes t) (l : k < cou
     (λ f. let z : _≡_ {A = ℕ} 0 1 = cc in absurd (omega arith)),
     λ n. absurd (missing-unfit t k bs e (n .0)),
   )
-  second-parsed (found v) missing e g = ((λ _. (found-fits t k bs v e, missing-unfit t k cs g)), λ _. refl)
-  second-parsed (found v) (found w) e g = ((λ f. absurd (both-fitting v w 1 f)), λ n. absurd (n .1 (found-fits t k cs w g)))
+  second-parsed (found v) missing e g = ((λ _. (found-fits t k bs v e .0, missing-unfit t k cs g)), λ _. refl)
+  second-parsed (found v) (found w) e g = ((λ f. absurd (both-fitting v w 1 f)), λ n. absurd (n .1 (found-fits t k cs w g .0)))
 
   pub misfits-first : (compareSays t k bs cs ≡ refuses 12 0) ↔ ¬ (Fits t k bs)
   misfits-first = (

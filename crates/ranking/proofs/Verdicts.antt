@@ -1,156 +1,98 @@
--- Verdicts as numbers, and the parts that the walks over both readings put together.
+-- Verdicts as numbers: what holding two records against each other finds, and then two readings, record by record.
 -- Assumes nothing.
-use Prim.Native.Nat.{ℕ, _+_, _-_, _≤_, _<_}
-use mathlib.Core.Path.{_≡_, refl, sym, _∙_, ap, subst}
-use mathlib.Core.Bool.{true}
-use mathlib.Core.List.{List}
+use Prim.Native.Nat.{ℕ, _+_, _≤_, _<_}
+use mathlib.Core.Path.{_≡_, refl, sym, _∙_, ap, ap₂}
+use mathlib.Core.Bool.{Bool, true, false}
+use mathlib.Core.List.{List, [], _∷_}
+use mathlib.Core.Logic.{_⊎_, ⊎-elim}
 use native.Mathlib.Omega.{arith}
-use borrow.Author.Tests.{lt-ltb, le-ltb}
-use lib.ListN.{length, length-append}
-use Rattle.regex.specs.Values.{pair, flat}
-use Rattle.regex.specs.Ranking.{Verdict, same, first, second, rank}
+use borrow.Author.Tests.{ltb-true, ltb-false}
+use lib.Dec.{ltb}
+use lib.ListN.{length, drop}
+use Rattle.regex.specs.Ranking.{Verdict, same, first, second, choose}
 use Rattle.regex.specs.RankingParts.{bySize, thenBy}
-use Rattle.reading.specs.declared.Span.{Span}
-use Rattle.reading.specs.declared.Fit.the-variants.{Found}
-use Rattle.reading.specs.Walks.{fitAt, isFound}
-use Rattle.reading.specs.Fitted.{Fitted, spanWith}
-use Rattle.reading.proofs.Fitted.{fitted-reads, fitted-found}
-use Rattle.reading.proofs.Parts.{two-room}
-use Rattle.ranking.specs.declared.Compared.{Compared}
+use Rattle.reading.specs.Codec.{recordSize, Record, recordAt, recordsOf}
+use Rattle.reading.proofs.Places.{records-next, records-end}
 use Rattle.ranking.specs.Answers.{verdictNumber}
-use Rattle.ranking.specs.Walks.{comparedAs, FittedPair, Compares, ComparesBySize, ComparesPairs}
-use Rattle.ranking.proofs.Parts.{rank-pair}
+use Rattle.ranking.specs.Records.{rankRecords, RecordVerdict}
+use Rattle.ranking.proofs.Records.{size-then, ranked}
 
--- the three ways out of `by_size`
-pub size-first : (m n : ℕ) → n < m → (d : Verdict) → 1 ≡ verdictNumber (bySize m n d)
-size-first m n h d = rw (lt-ltb n m h)
-
-pub size-second : (m n : ℕ) → m < n → (d : Verdict) → 2 ≡ verdictNumber (bySize m n d)
-size-second m n h d = rw (le-ltb n m (omega arith), lt-ltb m n h)
-
-pub size-same : (m n : ℕ) → m ≤ n → n ≤ m → (v : ℕ) (d : Verdict) → v ≡ verdictNumber d → v ≡ verdictNumber (bySize m n d)
-size-same m n h i v d e = rw (le-ltb n m h, le-ltb m n i) e
-
--- the two ways out of `then_by`
-pub then-other : (a b : ℕ) → a ≡ 0 → (d e : Verdict) → a ≡ verdictNumber d → b ≡ verdictNumber e → b ≡ verdictNumber (thenBy d e)
-then-other a b z same e f g = g
-then-other a b z first e f g = absurd (omega arith)
-then-other a b z second e f g = absurd (omega arith)
-
-pub then-this : (a b : ℕ) → ¬ (a ≡ 0) → (d e : Verdict) → a ≡ verdictNumber d → b ≡ verdictNumber e → a ≡ verdictNumber (thenBy d e)
-then-this a b z same e f g = absurd (z f)
-then-this a b z first e f g = f
-then-this a b z second e f g = f
-
--- a part that `part_length` finds
-pub part-found : (t : List ℕ) (k : ℕ) (bs : List ℕ) (at : ℕ) → Fitted t k bs at → isFound (fitAt t k bs at) ≡ true
-part-found t k bs at x = ap isFound (fitted-found t k bs at x)
-
-pub part-span : (t : List ℕ) (k : ℕ) (bs : List ℕ) (at : ℕ) (s : Span) → fitAt t k bs at ≡ Found s → (x : Fitted t k bs at) → s ≡ spanWith bs (x .value) (x .rest)
-part-span t k bs at s e x =
-    let f : Found s ≡ Found (spanWith bs (x .value) (x .rest)) = sym e ∙ fitted-found t k bs at x in cc
-
-compared : (a b c d : Span) (m n : ℕ) → a ≡ b → c ≡ d → m ≡ n → _≡_ {A = Compared} (record { first = a; second = c; verdict = m }) (record { first = b; second = d; verdict = n })
-compared a b c d m n e f g = rw (e, f, g)
-
--- Left against Right
-pub sides-compared :
-    (t : List ℕ) (c d : ℕ) (bs : List ℕ) (p : ℕ) (cs : List ℕ) (q verdict : ℕ) (a b : Span) (v : ℕ) → fitAt t c bs p ≡ Found a
-    → fitAt t d cs q ≡ Found b
-    → ((e : Verdict) → verdict ≡ verdictNumber e → v ≡ verdictNumber (bySize (a .size) (b .size) e))
-    → ComparesBySize t c d bs p cs q verdict (record { first = a; second = b; verdict = v })
-sides-compared t c d bs p cs q verdict a b v f g h x y e i =
-    let j : a ≡ spanWith bs (x .value) (x .rest) = part-span t c bs p a f x in
-    let k : b ≡ spanWith cs (y .value) (y .rest) = part-span t d cs q b g y in
-    compared a _ b _ v _ j k
-    (h e i ∙ ap (λ (s : Span). verdictNumber (bySize (s .size) (b .size) e)) j ∙ ap (λ (s : Span). verdictNumber (bySize (length (flat (x .value))) (s .size) e)) k)
-
--- where the first parts of a Seq end
-module _
-    {t : List ℕ} {c d : ℕ} {bs : List ℕ} {p : ℕ} {cs : List ℕ} {q : ℕ} (x : FittedPair t c d bs p) (y : FittedPair t c d cs q) {a : Compared}
-    (h : Compares t c bs p cs q a)
+-- the verdict of two records alone, as a number
+alone : (r q : Record) (x : ℕ) → RecordVerdict r q x → x ≡ verdictNumber (rankRecords (r ∷ []) (q ∷ []))
+alone r q x v = go (ltb (q .size) (r .size)) (ltb (r .size) (q .size)) (ltb (r .kind) (q .kind)) (ltb (q .kind) (r .kind)) refl refl refl refl
   where
-    front-as : a ≡ comparedAs bs (x .front .value) (x .front .rest) cs (y .front .value) (y .front .rest) (rank (x .front .value) (y .front .value))
-    front-as = h (x .front) (y .front)
+    equal : (m n : ℕ) → ltb n m ≡ false → ltb m n ≡ false → m ≡ n
+    equal m n e f = omega (arith, ltb-false n m e, ltb-false m n f)
 
-    pub back-first : Fitted t d bs (a .first .next .at)
-    back-first = subst (λ (z : Compared). Fitted t d bs (z .first .next .at)) (sym front-as) (x .back)
+    go :
+        (a b c d : Bool) → ltb (q .size) (r .size) ≡ a → ltb (r .size) (q .size) ≡ b → ltb (r .kind) (q .kind) ≡ c → ltb (q .kind) (r .kind) ≡ d
+        → x ≡ verdictNumber (choose a first (choose b second (choose c first (choose d second same))))
+    go true b c d e f g h = v .longer-first (ltb-true (q .size) (r .size) e)
+    go false true c d e f g h = v .longer-second (ltb-true (r .size) (q .size) f)
+    go false false true d e f g h = v .lower-first (equal (r .size) (q .size) e f) (ltb-true (r .kind) (q .kind) g)
+    go false false false true e f g h = v .lower-second (equal (r .size) (q .size) e f) (ltb-true (q .kind) (r .kind) h)
+    go false false false false e f g h = v .neither-ahead (equal (r .size) (q .size) e f) (equal (r .kind) (q .kind) h g)
 
-    pub back-second : Fitted t d cs (a .second .next .at)
-    back-second = subst (λ (z : Compared). Fitted t d cs (z .second .next .at)) (sym front-as) (y .back)
+-- the verdict of two records, then that of those behind them
+one-more :
+    (r q : Record) (rs qs : List Record) → rankRecords (r ∷ rs) (q ∷ qs) ≡ thenBy (rankRecords (r ∷ []) (q ∷ [])) (rankRecords rs qs)
+one-more r q rs qs =
+    sym (size-then (r .size) (q .size) (bySize (q .kind) (r .kind) same) (rankRecords rs qs)
+    ∙ ap (bySize (r .size) (q .size)) (size-then (q .kind) (r .kind) same (rankRecords rs qs)))
 
-    pub back-inside : a .first .next .at ≤ length bs
-    back-inside = subst (λ (z : Compared). z .first .next .at ≤ length bs) (sym front-as) (omega arith)
+-- none is ahead of no records
+none-second : (rs qs : List Record) → qs ≡ [] → rankRecords rs qs ≡ same
+none-second [] qs e = refl
+none-second (r ∷ rs) qs e = rw e
 
-    pub back-within : a .second .next .at ≤ length cs
-    back-within = subst (λ (z : Compared). z .second .next .at ≤ length cs) (sym front-as) (omega arith)
+-- a verdict other than 0 stands, and after 0 the next one does
+this-stands : (v : ℕ) (d e : Verdict) → v ≡ verdictNumber d → ¬ (v ≡ 0) → v ≡ verdictNumber (thenBy d e)
+this-stands v same e f n = absurd (n f)
+this-stands v first e f n = f
+this-stands v second e f n = f
 
-    -- what two parts of a Seq spell together
-    pub pair-room :
-        p ≤ length bs → q ≤ length cs → (b : Compared) → Compares t d bs (a .first .next .at) cs (a .second .next .at) b
-        → (a .first .size + b .first .size ≤ length bs) × (a .second .size + b .second .size ≤ length cs)
-    pair-room i j b g = (
-      two-room t c d bs p (a .first) (b .first) i (fitted-found t c bs p (x .front) ∙ ap (λ (z : Compared). Found (z .first)) (sym front-as))
-          (fitted-found t d bs (a .first .next .at) back-first ∙ ap (λ (z : Compared). Found (z .first)) (sym (g back-first back-second))),
-      two-room t c d cs q (a .second) (b .second) j (fitted-found t c cs q (y .front) ∙ ap (λ (z : Compared). Found (z .second)) (sym front-as))
-          (fitted-found t d cs (a .second .next .at) back-second ∙ ap (λ (z : Compared). Found (z .second)) (sym (g back-first back-second))),
-    )
+next-stands : (v : ℕ) (d e : Verdict) → v ≡ verdictNumber d → v ≡ 0 → thenBy d e ≡ e
+next-stands v same e f z = refl
+next-stands v first e f z = absurd (omega arith)
+next-stands v second e f z = absurd (omega arith)
 
--- the verdicts of `then_by` and `by_size`
-abbrev pub ThenBy : ℕ → ℕ → ℕ → Type 0
-ThenBy a b r = (d e : Verdict) → a ≡ verdictNumber d → b ≡ verdictNumber e → r ≡ verdictNumber (thenBy d e)
+-- the verdict of the two records at a place
+abbrev rankedAt : List ℕ → List ℕ → ℕ → Verdict
+rankedAt bs cs at = rankRecords (recordAt bs at ∷ []) (recordAt cs at ∷ [])
 
-abbrev pub BySize : ℕ → ℕ → ℕ → ℕ → Type 0
-BySize m n v r = (d : Verdict) → v ≡ verdictNumber d → r ≡ verdictNumber (bySize m n d)
+-- the records before a place agree: those from there on decide
+pub record Agreeing (bs cs : List ℕ) (at : ℕ) : Type 0 where
+  decide : ranked (drop at bs) (drop at cs) ≡ ranked bs cs
 
-module _ (t : List ℕ) (c d : ℕ) (bs : List ℕ) (p : ℕ) (cs : List ℕ) (q : ℕ) where
-  seqs :
-      (x : FittedPair t c d bs p) (y : FittedPair t c d cs q) (i j : ℕ)
-      → i ≡ verdictNumber (rank (x .front .value) (y .front .value))
-      → j ≡ verdictNumber (rank (x .back .value) (y .back .value))
-      → (v r : ℕ)
-      → ThenBy i j v
-      → BySize (length (flat (x .front .value)) + length (flat (x .back .value))) (length (flat (y .front .value)) + length (flat (y .back .value))) v r
-      → r ≡ verdictNumber (rank (pair (x .front .value) (x .back .value)) (pair (y .front .value) (y .back .value)))
-  seqs x y i j e f v r g h =
-      h (thenBy (rank (x .front .value) (y .front .value)) (rank (x .back .value) (y .back .value))) (g (rank (x .front .value) (y .front .value)) (rank (x .back .value) (y .back .value)) e f)
-      ∙ ap verdictNumber
-      (sym
-      (rank-pair (fitted-reads t c bs p (x .front)) (fitted-reads t c cs q (y .front)) (fitted-reads t d bs _ (x .back))
-      (fitted-reads t d cs _ (y .back))))
+pub agree-start : (bs cs : List ℕ) → Agreeing bs cs 0
+agree-start bs cs = record { decide = refl }
 
-  -- Seq against Seq
-  pub pairs-compared :
-      (a b : Compared) → Compares t c bs p cs q a → Compares t d bs (a .first .next .at) cs (a .second .next .at) b → (v r : ℕ)
-      → ThenBy (a .verdict) (b .verdict) v
-      → BySize (a .first .size + b .first .size) (a .second .size + b .second .size) v r
-      → ComparesPairs t c d bs p cs q
-      (record { first = record { next = b .first .next; size = a .first .size + b .first .size }; second = record { next = b .second .next; size = a .second .size + b .second .size }; verdict = r })
-  pairs-compared a b h g v r k l x y =
-      subst Front (sym (h (x .front) (y .front)))
-      (λ b g k l.
-      subst Back (sym (g (x .back) (y .back)))
-      (λ k l.
-      compared _ _ _ _ r _ (sized _ (length-append (flat (x .front .value)) (flat (x .back .value))))
-      (sized _ (length-append (flat (y .front .value)) (flat (y .back .value))))
-      (seqs x y _ _ refl refl v r k l)) k l) b g k l
+module _ (bs cs : List ℕ) (at : ℕ) (a : Agreeing bs cs at) where
+  -- the records at the place differ, or agree too
+  module _ (h : at + recordSize ≤ length bs) (i : at + recordSize ≤ length cs) {v : ℕ} (e : RecordVerdict (recordAt bs at) (recordAt cs at) v) where
+    abbrev later : Verdict
+    later = ranked (drop (at + recordSize) bs) (drop (at + recordSize) cs)
+
+    here : ranked bs cs ≡ thenBy (rankedAt bs cs at) later
+    here =
+        sym (a .decide) ∙ ap₂ rankRecords (records-next bs at h) (records-next cs at i)
+        ∙ one-more (recordAt bs at) (recordAt cs at) (recordsOf (drop (at + recordSize) bs)) (recordsOf (drop (at + recordSize) cs))
+
+    number : v ≡ verdictNumber (rankedAt bs cs at)
+    number = alone (recordAt bs at) (recordAt cs at) v e
+
+    pub agree-ends : ¬ (v ≡ 0) → v ≡ verdictNumber (ranked bs cs)
+    agree-ends n = this-stands v (rankedAt bs cs at) later number n ∙ ap verdictNumber (sym here)
+
+    pub agree-next : v ≡ 0 → Agreeing bs cs (at + recordSize)
+    agree-next z = record { decide = sym (here ∙ next-stands v (rankedAt bs cs at) later number z) }
+
+  -- no record is left of one of the two
+  pub agree-over : (length bs < at + recordSize) ⊎ (length cs < at + recordSize) → 0 ≡ verdictNumber (ranked bs cs)
+  agree-over o = ap verdictNumber (sym (⊎-elim first-over second-over o) ∙ a .decide)
     where
-      Made : Compared → Compared → Type 0
-      Made a b =
-          _≡_ {A = Compared}
-          (record { first = record { next = b .first .next; size = a .first .size + b .first .size }; second = record { next = b .second .next; size = a .second .size + b .second .size }; verdict = r })
-          (comparedAs bs (pair (x .front .value) (x .back .value)) (x .back .rest) cs (pair (y .front .value) (y .back .value)) (y .back .rest)
-          (rank (pair (x .front .value) (x .back .value)) (pair (y .front .value) (y .back .value))))
+      first-over : length bs < at + recordSize → ranked (drop at bs) (drop at cs) ≡ same
+      first-over h = rw (records-end bs at h)
 
-      Rest : Compared → Compared → Type 0
-      Rest a b =
-          ThenBy (a .verdict) (b .verdict) v → BySize (a .first .size + b .first .size) (a .second .size + b .second .size) v r → Made a b
-
-      Front : Compared → Type 0
-      Front a = (b : Compared) → Compares t d bs (a .first .next .at) cs (a .second .next .at) b → Rest a b
-
-      Back : Compared → Type 0
-      Back b = Rest (comparedAs bs (x .front .value) (x .front .rest) cs (y .front .value) (y .front .rest) (rank (x .front .value) (y .front .value))) b
-
-      sized : {m n : ℕ} (at : ℕ) → m ≡ n → _≡_ {A = Span} (record { next = record { at = at }; size = n }) (record { next = record { at = at }; size = m })
-      sized at e = ap (λ (i : ℕ). record { next = record { at = at }; size = i }) (sym e)
+      second-over : length cs < at + recordSize → ranked (drop at bs) (drop at cs) ≡ same
+      second-over h = none-second (recordsOf (drop at bs)) (recordsOf (drop at cs)) (records-end cs at h)

@@ -4,8 +4,7 @@
 use Prim.Native.Nat.{ℕ, zero, suc}
 use mathlib.Core.Bool.{Bool, true, false, not, _&&_}
 use mathlib.Core.List.{List, [], _∷_}
-use lib.Dec.{ltb, eqb}
-use lib.ListN.{length}
+use lib.Dec.{eqb}
 use Rattle.regex.specs.Values.{Val, flat}
 use Rattle.regex.specs.Decision.{Parsed, found, missing}
 use Rattle.regex.specs.Ranking.{Verdict, same, first, second, rank}
@@ -27,12 +26,9 @@ sameLine [] (d ∷ s) = false
 sameLine (c ∷ s) [] = false
 sameLine (c ∷ s) (d ∷ u) = eqb c d && sameLine s u
 
--- 13 first, 13 second, 14, then the ranking
+-- 14, then the ranking
 abbrev pub compareValues : Val → Val → Said
-compareValues v w =
-    orElse (ltb 255 (length (flat v))) (refuses 13 0)
-    (orElse (ltb 255 (length (flat w))) (refuses 13 1)
-    (orElse (not (sameLine (flat v) (flat w))) (refuses 14 0) (gives (verdictNumber (rank v w)))))
+compareValues v w = orElse (not (sameLine (flat v) (flat w))) (refuses 14 0) (gives (verdictNumber (rank v w)))
 
 -- 12 first, 12 second, then the rest
 abbrev pub compareParsed : Parsed → Parsed → Said

@@ -2,4 +2,4 @@
 pub mod Answers
 pub mod OneLine
 -- What only the functions and proofs inside go by.
-pub mod Walks
+pub mod Records

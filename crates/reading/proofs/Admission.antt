@@ -8,7 +8,7 @@ use native.Mathlib.Omega.{arith}
 use borrow.Author.Tests.{lt-ltb, le-ltb, ltb-true, not-false}
 use lib.Dec.{ltb}
 use Rattle.table.specs.declared.Refusal.{Refusal}
-use Rattle.table.specs.declared.Refusal.the-variants.{Size, Kind, Unused, Bounds, Child, Named, Line, NoReading, Start, Work, Buffer, Unfit, Long, Differ, Text, Records, Pairs, TokenBytes}
+use Rattle.table.specs.declared.Refusal.the-variants.{Size, Kind, Unused, Bounds, Child, Named, Line, NoReading, Start, Work, Buffer, Unfit, Differ, Text, Records, Pairs, TokenBytes}
 use Rattle.table.specs.declared.Answer.{Answer}
 use Rattle.table.specs.declared.Answer.the-variants.{Done, Refused}
 use Rattle.table.specs.Records.{count}
@@ -72,7 +72,6 @@ refusal-numbers Start = (9, 0, refl)
 refusal-numbers Work = (10, 0, refl)
 refusal-numbers (Buffer n) = (11, n, refl)
 refusal-numbers (Unfit i) = (12, i, refl)
-refusal-numbers (Long i) = (13, i, refl)
 refusal-numbers Differ = (14, 0, refl)
 refusal-numbers Text = (15, 0, refl)
 refusal-numbers Records = (16, 0, refl)

@@ -1,4 +1,4 @@
--- What an encoding's bytes are: two for each record, and the line in its Byte records (document 01, "Readings").
+-- What an encoding's bytes are: a record's for each record, and the line in its Byte records (document 01, "Readings").
 -- Assumes nothing.
 use Prim.Native.Nat.{ℕ, zero, suc, _+_, _*_, _≤_}
 use mathlib.Core.Path.{_≡_, refl, sym, _∙_, ap}
@@ -7,20 +7,26 @@ use native.Mathlib.Omega.{arith}
 use lib.ListN.{length, length-append}
 use Rattle.regex.specs.Expressions.{Exp, star}
 use Rattle.regex.specs.Values.{Val, void, byte, left, right, pair, none, more, flat, records, Reads, reads-void, reads-byte, reads-left, reads-right, reads-pair, reads-none, reads-more}
-use Rattle.reading.specs.Codec.{iterations, encode, encodeItems}
+use Rattle.table.specs.Records.{aAt, bAt}
+use Rattle.reading.specs.Codec.{recordSize, encodeBelow, encode}
 use Rattle.reading.specs.Fitting.{Fits, spelled}
-use Rattle.reading.proofs.Codec.{encode-star}
+use Rattle.reading.proofs.Codec.{star-kind}
 
--- an encoding has two bytes for each record
-pub encode-length : {r : Exp} {v : Val} → Reads r v → length (encode v) ≡ 2 * records v
-encode-length reads-void = refl
-encode-length (reads-byte h) = refl
-encode-length (reads-left p) = omega (arith, encode-length p)
-encode-length (reads-right p) = omega (arith, encode-length p)
-encode-length (reads-pair {v = v} {w = w} p q) = omega (arith, encode-length p, encode-length q, length-append (encode v) (encode w))
-encode-length reads-none = refl
-encode-length (reads-more {v = v} {w = w} p n q) =
-    omega (arith, encode-length p, encode-length q, ap length (encode-star q), length-append (encode v) (encodeItems w))
+-- the bytes below a reading's record, with those of the record
+below-length : (t : List ℕ) (k : ℕ) {r : Exp} {v : Val} → Reads r v → length (encodeBelow t k v) + recordSize ≡ recordSize * records v
+below-length t k reads-void = refl
+below-length t k (reads-byte h) = refl
+below-length t k (reads-left p) = omega (arith, below-length t (aAt t k) p)
+below-length t k (reads-right p) = omega (arith, below-length t (bAt t k) p)
+below-length t k (reads-pair {v = v} {w = w} p q) =
+    omega (arith, below-length t (aAt t k) p, below-length t (bAt t k) q, length-append (encode t (aAt t k) v) (encode t (bAt t k) w))
+below-length t k reads-none = refl
+below-length t k (reads-more {v = v} {w = w} p n q) =
+    omega (arith, below-length t (aAt t k) p, below-length t k q, length-append (encode t (aAt t k) v) (encodeBelow t k w))
+
+-- an encoding has the bytes of one record for each record
+pub encode-length : (t : List ℕ) (k : ℕ) {r : Exp} {v : Val} → Reads r v → length (encode t k v) ≡ recordSize * records v
+encode-length t k p = omega (arith, below-length t k p)
 
 -- a reading has a record
 pub records-some : {r : Exp} {v : Val} → Reads r v → 1 ≤ records v
@@ -43,24 +49,31 @@ flat-records reads-none = omega arith
 flat-records (reads-more {v = v} {w = w} p n q) = omega (arith, flat-records p, flat-records q, length-append (flat v) (flat w))
 
 -- the Byte arguments of an encoding are the line that the reading spells
-pub spelled-encode : {r : Exp} {v : Val} → Reads r v → (rest : List ℕ) → spelled (encode v ++ rest) ≡ flat v ++ spelled rest
-spelled-encode reads-void rest = refl
-spelled-encode (reads-byte h) rest = refl
-spelled-encode (reads-left p) rest = spelled-encode p rest
-spelled-encode (reads-right p) rest = spelled-encode p rest
-spelled-encode (reads-pair {v = v} {w = w} p q) rest =
-    ap spelled (append-assoc (encode v) (encode w) rest) ∙ spelled-encode p (encode w ++ rest)
-    ∙ ap (λ (s : List ℕ). flat v ++ s) (spelled-encode q rest)
+pub spelled-encode :
+    (t : List ℕ) (k : ℕ) {r : Exp} {v : Val} → Reads r v → (rest : List ℕ) → spelled (encode t k v ++ rest) ≡ flat v ++ spelled rest
+spelled-encode t k reads-void rest = refl
+spelled-encode t k (reads-byte h) rest = refl
+spelled-encode t k (reads-left p) rest = spelled-encode t (aAt t k) p rest
+spelled-encode t k (reads-right p) rest = spelled-encode t (bAt t k) p rest
+spelled-encode t k (reads-pair {v = v} {w = w} p q) rest =
+    ap spelled (append-assoc (encode t (aAt t k) v) (encode t (bAt t k) w) rest) ∙ spelled-encode t (aAt t k) p (encode t (bAt t k) w ++ rest)
+    ∙ ap (λ (s : List ℕ). flat v ++ s) (spelled-encode t (bAt t k) q rest)
     ∙ sym (append-assoc (flat v) (flat w) (spelled rest))
-spelled-encode reads-none rest = refl
-spelled-encode (reads-more {v = v} {w = w} p n q) rest =
-    let items : spelled (encodeItems w ++ rest) ≡ flat w ++ spelled rest =
-    ap (λ (bs : List ℕ). spelled (bs ++ rest)) (sym (encode-star q)) ∙ spelled-encode q rest in
-    ap spelled (append-assoc (encode v) (encodeItems w) rest) ∙ spelled-encode p (encodeItems w ++ rest)
+spelled-encode t k reads-none rest = refl
+spelled-encode t k (reads-more {v = v} {w = w} p n q) rest =
+    let items : spelled (encodeBelow t k w ++ rest) ≡ flat w ++ spelled rest = below ∙ spelled-encode t k q rest in
+    ap spelled (append-assoc (encode t (aAt t k) v) (encodeBelow t k w) rest) ∙ spelled-encode t (aAt t k) p (encodeBelow t k w ++ rest)
     ∙ ap (λ (s : List ℕ). flat v ++ s) items
     ∙ sym (append-assoc (flat v) (flat w) (spelled rest))
+  where
+    below : spelled (encodeBelow t k w ++ rest) ≡ spelled (encode t k w ++ rest)
+    below = rw (star-kind q) refl
 
 -- the line that fitting bytes spell is the line that their reading flattens to
 pub spelled-fits : {t : List ℕ} {k : ℕ} {bs : List ℕ} (f : Fits t k bs) → spelled bs ≡ flat (f .value)
-spelled-fits f =
-    ap spelled (f .encoded ∙ sym (append-nil (encode (f .value)))) ∙ spelled-encode (f .reads) [] ∙ append-nil (flat (f .value))
+spelled-fits {t} {k} f =
+    ap spelled (f .encoded ∙ sym (append-nil (encode t k (f .value)))) ∙ spelled-encode t k (f .reads) [] ∙ append-nil (flat (f .value))
+
+-- what fits spells at most 255 bytes (document 02, request 6)
+pub fits-short : {t : List ℕ} {k : ℕ} {bs : List ℕ} → Fits t k bs → length (spelled bs) ≤ 255
+fits-short f = rw (spelled-fits f) (f .short)

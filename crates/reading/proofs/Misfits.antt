@@ -20,11 +20,10 @@ use Rattle.reading.specs.Calls.{ifStart, ifFits, spellSays}
 use Rattle.reading.proofs.Fitting.{found-fits, missing-unfit}
 use Rattle.reading.proofs.Admission.{start-inside}
 
--- of bytes that fit, 13, 11 or a result is said
-not-12 : (a b : Bool) (n m : ℕ) → orElse a (refuses 13 0) (orElse b (refuses 11 n) (gives m)) ≡ refuses 12 0 → ⊥
-not-12 true b n m e = let z : _≡_ {A = ℕ} 13 12 = cc in omega arith
-not-12 false true n m e = let z : _≡_ {A = ℕ} 11 12 = cc in omega arith
-not-12 false false n m e = let z : _≡_ {A = ℕ} 0 1 = cc in omega arith
+-- of bytes that fit, 11 or a result is said
+not-12 : (b : Bool) (n m : ℕ) → orElse b (refuses 11 n) (gives m) ≡ refuses 12 0 → ⊥
+not-12 true n m e = let z : _≡_ {A = ℕ} 11 12 = cc in omega arith
+not-12 false n m e = let z : _≡_ {A = ℕ} 0 1 = cc in omega arith
 
 -- the calls that write bytes of a reading: Spell and Tokens
 pub writes-unfit :
@@ -38,8 +37,8 @@ writes-unfit t k bs room bytes result p l = (
     go : (x : Parsed) → readingOf t k bs ≡ x → (ifFits x (λ v. ifRoom room (bytes v) (result v)) ≡ refuses 12 0) ↔ ¬ (Fits t k bs)
     go missing e = ((λ _. missing-unfit t k bs e), λ _. refl)
     go (found v) e = (
-      (λ f. absurd (not-12 (ltb 255 (length (flat v))) (ltb room (length (bytes v))) (length (bytes v)) (result v) f)),
-      λ n. absurd (n (found-fits t k bs v e)),
+      (λ f. absurd (not-12 (ltb room (length (bytes v))) (length (bytes v)) (result v) f)),
+      λ n. absurd (n (found-fits t k bs v e .0)),
     )
 
 -- Spell

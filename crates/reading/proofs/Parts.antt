@@ -2,7 +2,6 @@
 -- Assumes nothing.
 use Prim.Native.Nat.{ℕ, zero, suc, _+_, _-_, _≤_, _<_}
 use mathlib.Core.Path.{_≡_, refl, sym, _∙_, ap, subst}
-use mathlib.Core.Bool.{true, false, true≢false}
 use mathlib.Core.List.{List}
 use native.Mathlib.Omega.{arith}
 use lib.ListN.{length}
@@ -14,22 +13,23 @@ use Rattle.reading.specs.declared.Fit.the-variants.{Found, Unfit}
 use Rattle.reading.specs.declared.Shape.{Shape}
 use Rattle.reading.specs.declared.Shape.the-variants.{Leaf, Left, Right, Both, Many, Wrong}
 use Rattle.reading.specs.Fitting.{stepped}
-use Rattle.reading.specs.Walks.{shapeAt, fitAt, fitItems, longer, thenFit, unlessEmpty, spellingPart, isFound, fitBy}
-use Rattle.reading.proofs.Walks.{stepped-on, Known, Shaped, shaped, fit-shaped, items-zero, items-suc, Bounds, fit-bounds}
+use Rattle.reading.specs.Walks.{shapeAt, fitAt, fitItems, longer, thenFit, unlessEmpty, spellingPart, fitBy, lengthAt}
+use Rattle.reading.proofs.Places.{stepped-on}
+use Rattle.reading.proofs.Walks.{Known, shaped, items-zero, items-suc, Bounds, fit-bounds}
 
 -- what the code knows of a place whose record has a shape, with the place one record on: children are below their parent, and the part that
--- starts there
+-- starts there is the one by them
 abbrev pub Seen : List ℕ → ℕ → List ℕ → ℕ → ℕ → Shape → Type 0
-Seen t k bs at next (Leaf n) = (next ≤ length bs) × (fitAt t k bs at ≡ Found (record { next = record { at = next }; size = n }))
-Seen t k bs at next (Left c) = (next ≤ length bs) × (c < k) × (fitAt t k bs at ≡ fitAt t c bs next)
-Seen t k bs at next (Right c) = (next ≤ length bs) × (c < k) × (fitAt t k bs at ≡ fitAt t c bs next)
+Seen t k bs at next (Leaf n) = (next ≤ length bs) × (lengthAt t k bs at ≡ Found (record { next = record { at = next }; size = n }))
+Seen t k bs at next (Left c) = (next ≤ length bs) × (c < k) × (lengthAt t k bs at ≡ fitAt t c bs next)
+Seen t k bs at next (Right c) = (next ≤ length bs) × (c < k) × (lengthAt t k bs at ≡ fitAt t c bs next)
 Seen t k bs at next (Both c d) =
-    (next ≤ length bs) × (c < k) × (d < k) × (fitAt t k bs at ≡ thenFit (fitAt t c bs next) (λ over. fitAt t d bs over))
-Seen t k bs at next (Many c n) = (next ≤ length bs) × (c < k) × (fitAt t k bs at ≡ fitItems t c n bs next)
-Seen t k bs at next Wrong = fitAt t k bs at ≡ Unfit
+    (next ≤ length bs) × (c < k) × (d < k) × (lengthAt t k bs at ≡ thenFit (fitAt t c bs next) (λ over. fitAt t d bs over))
+Seen t k bs at next (Many c n) = (next ≤ length bs) × (c < k) × (lengthAt t k bs at ≡ fitItems t c n bs next)
+Seen t k bs at next Wrong = lengthAt t k bs at ≡ Unfit
 
 seen-shaped :
-    (t : List ℕ) (k : ℕ) (bs : List ℕ) (at : ℕ) (s : Shape) → Known t k bs at s → fitAt t k bs at ≡ fitBy t bs at s
+    (t : List ℕ) (k : ℕ) (bs : List ℕ) (at : ℕ) (s : Shape) → Known k bs at s → lengthAt t k bs at ≡ fitBy t bs at s
     → Seen t k bs at (stepped bs at) s
 seen-shaped t k bs at (Leaf n) w e = rw (stepped-on bs at (w .0)) (w .0, e)
 seen-shaped t k bs at (Left c) w e = rw (stepped-on bs at (w .0)) (w .0, w .1, e)
@@ -44,10 +44,10 @@ pub seen :
     → next ≡ stepped bs at
     → s ≡ u
     → Seen t k bs at next u
+unfolding lengthAt
 seen t p k l bs at next s u e n f =
-    let h : Shaped t k bs at (shapeAt t k bs at) = shaped t p k l bs at in
     subst (Seen t k bs at next) (sym e ∙ f)
-    (rw n (seen-shaped t k bs at (shapeAt t k bs at) (h .known) (fit-shaped t k bs at (shapeAt t k bs at) h)))
+    (rw n (seen-shaped t k bs at (shapeAt t k bs at) (shaped t p k l bs at .known) refl))
 
 -- two parts of which both are found, or one is not
 pub then-found :
@@ -60,42 +60,6 @@ then-first x f e = rw e
 
 pub then-second : (x : Fit) (f : ℕ → Fit) (s : Span) → x ≡ Found s → f (s .next .at) ≡ Unfit → thenFit x f ≡ Unfit
 then-second x f s e g = rw (e, g)
-
--- what is found of two parts where both together are
-first-fits : (x : Fit) (f : ℕ → Fit) → isFound (thenFit x f) ≡ true → isFound x ≡ true
-first-fits (Found s) f e = refl
-first-fits Unfit f e = e
-
-longer-fits : (n : ℕ) (x : Fit) → isFound (longer n x) ≡ true → isFound x ≡ true
-longer-fits n (Found s) e = refl
-longer-fits n Unfit e = e
-
-second-fits : (x : Fit) (f : ℕ → Fit) (s : Span) → isFound (thenFit x f) ≡ true → x ≡ Found s → isFound (f (s .next .at)) ≡ true
-second-fits x f s e g = longer-fits (s .size) (f (s .next .at)) (rw g at e)
-
--- the same of the first of two parts, and of the second behind it, by what was seen of both
-pub both-first :
-    (t : List ℕ) (c d : ℕ) (bs : List ℕ) (next : ℕ) (whole : Fit) → whole ≡ thenFit (fitAt t c bs next) (λ over. fitAt t d bs over)
-    → isFound whole ≡ true
-    → isFound (fitAt t c bs next) ≡ true
-both-first t c d bs next whole e f = first-fits (fitAt t c bs next) (λ over. fitAt t d bs over) (ap isFound (sym e) ∙ f)
-
-pub both-second :
-    (t : List ℕ) (c d : ℕ) (bs : List ℕ) (next : ℕ) (whole : Fit) (s : Span) → whole ≡ thenFit (fitAt t c bs next) (λ over. fitAt t d bs over)
-    → isFound whole ≡ true
-    → fitAt t c bs next ≡ Found s
-    → isFound (fitAt t d bs (s .next .at)) ≡ true
-both-second t c d bs next whole s e f = second-fits (fitAt t c bs next) (λ over. fitAt t d bs over) s (ap isFound (sym e) ∙ f)
-
--- two parts spell no more than the reading has bytes
-pub two-room :
-    (t : List ℕ) (c d : ℕ) (bs : List ℕ) (at : ℕ) (s u : Span) → at ≤ length bs → fitAt t c bs at ≡ Found s
-    → fitAt t d bs (s .next .at) ≡ Found u
-    → s .size + u .size ≤ length bs
-two-room t c d bs at s u h e f =
-    let x : Bounds bs at s = fit-bounds t c bs at h s e in
-    let y : Bounds bs (s .next .at) u = fit-bounds t d bs (s .next .at) (x .end) u f in
-    omega arith
 
 -- a part that spells no byte more, and a part that spells more twice
 longer-zero : (x : Fit) → longer 0 x ≡ x
@@ -117,13 +81,6 @@ spelling-found s n = go (s .size) n
 
 spelling-empty : (s : Span) → s .size ≡ 0 → spellingPart (Found s) ≡ Unfit
 spelling-empty s e = rw e
-
-spelling-fits : (s : Span) → isFound (spellingPart (Found s)) ≡ true → ¬ (s .size ≡ 0)
-spelling-fits s e z = true≢false (sym e ∙ ap isFound (spelling-empty s z))
-
-spelling-part : (x : Fit) → isFound (spellingPart x) ≡ true → isFound x ≡ true
-spelling-part (Found s) e = refl
-spelling-part Unfit e = e
 
 -- a walk over n iterations of record c from a place: so many are left at the place that it has come to, and so many bytes are spelled before
 pub record Walking (t : List ℕ) (c n : ℕ) (bs : List ℕ) (from left at size : ℕ) : Type 0 where
@@ -173,15 +130,3 @@ module _ {t : List ℕ} {c n : ℕ} {bs : List ℕ} {from left at size : ℕ} (w
       let z : size + 0 ≡ size = omega arith in
       sym (w .same) ∙ ap (λ (i : ℕ). longer size (fitItems t c i bs at)) e ∙ ap (longer size) (items-zero t c bs at (w .inside))
       ∙ ap (λ (i : ℕ). Found (record { next = record { at = at }; size = i })) z
-
-  -- where all iterations are known to fit, so does the next one, and it spells a byte
-  next-spelling : isFound (fitItems t c n bs from) ≡ true → 0 < left → isFound (spellingPart (fitAt t c bs at)) ≡ true
-  next-spelling f l =
-      first-fits (spellingPart (fitAt t c bs at)) (λ next. fitItems t c (left - 1) bs next)
-      (longer-fits size (thenFit (spellingPart (fitAt t c bs at)) (λ next. fitItems t c (left - 1) bs next)) (ap isFound (one-more l) ∙ f))
-
-  pub next-fits : isFound (fitItems t c n bs from) ≡ true → 0 < left → isFound (fitAt t c bs at) ≡ true
-  next-fits f l = spelling-part (fitAt t c bs at) (next-spelling f l)
-
-  pub next-some : isFound (fitItems t c n bs from) ≡ true → 0 < left → (s : Span) → fitAt t c bs at ≡ Found s → ¬ (s .size ≡ 0)
-  next-some f l s e = spelling-fits s (ap (λ (x : Fit). isFound (spellingPart x)) (sym e) ∙ next-spelling f l)

@@ -5,14 +5,15 @@ use mathlib.Core.Path.{_≡_, refl, sym, _∙_}
 use mathlib.Core.Bool.{Bool, true, false, _&&_}
 use mathlib.Core.List.{List}
 use mathlib.Core.Logic.{inl, inr, ⊎-elim}
-use borrow.Author.Tests.{le-leb, lt-leb, ne-eqb}
+use borrow.Author.Tests.{le-leb, lt-leb, eq-eqb, ne-eqb}
 use lib.Dec.{eqb}
-use lib.ListN.{length, getD}
+use lib.ListN.{length}
 use Rattle.regex.specs.Expressions.{holds}
 use Rattle.table.specs.Records.{kindAt, aAt, bAt}
 use Rattle.table.specs.Letters.{LetterKind, byteSet}
 use Rattle.reading.specs.declared.Shape.{Shape}
 use Rattle.reading.specs.declared.Shape.the-variants.{Leaf, Left, Right, Both, Many, Wrong}
+use Rattle.reading.specs.Codec.{recordSize, recordAt}
 use Rattle.reading.specs.Walks.{pickShape, letterShape, shapeOf, shapeAt}
 
 -- the second of two tests fails
@@ -81,14 +82,29 @@ no-kind (suc (suc (suc (suc (suc zero))))) a b x y n1 n2 n3 n4 n5 = absurd (n5 r
 no-kind (suc (suc (suc (suc (suc (suc zero)))))) a b x y n1 n2 n3 n4 n5 = absurd (n2 (inr refl))
 no-kind (suc (suc (suc (suc (suc (suc (suc n))))))) a b x y n1 n2 n3 n4 n5 = refl
 
--- the shape of the record at a place: none where less than a record is left
-pub look-short : (t : List ℕ) (k : ℕ) (bs : List ℕ) (at : ℕ) → length bs < at + 2 → Wrong ≡ shapeAt t k bs at
+-- the shape of the record at a place: none where less than a record is left, or its number is another
+pub look-short : (t : List ℕ) (k : ℕ) (bs : List ℕ) (at : ℕ) → length bs < at + recordSize → Wrong ≡ shapeAt t k bs at
 unfolding shapeAt
-look-short t k bs at h = rw (lt-leb (at + 2) (length bs) h)
+look-short t k bs at h = rw (lt-leb (at + recordSize) (length bs) h)
+
+pub look-other :
+    (t : List ℕ) (k : ℕ) (bs : List ℕ) (at number : ℕ) → at + recordSize ≤ length bs → number ≡ recordAt bs at .number → ¬ (number ≡ k)
+    → Wrong ≡ shapeAt t k bs at
+unfolding shapeAt
+look-other t k bs at number h e n =
+    rw (le-leb (at + recordSize) (length bs) h, ne-eqb (recordAt bs at .number) k (λ z. n (e ∙ z)))
 
 pub look-full :
-    (t : List ℕ) (k : ℕ) (bs : List ℕ) (at kind a b : ℕ) (s : Shape) → at + 2 ≤ length bs → kind ≡ kindAt t k → a ≡ aAt t k → b ≡ bAt t k
-    → s ≡ shapeOf kind a b (getD bs at 0) (getD bs (at + 1) 0)
+    (t : List ℕ) (k : ℕ) (bs : List ℕ) (at number kind a b x y : ℕ) (s : Shape) → at + recordSize ≤ length bs
+    → number ≡ recordAt bs at .number
+    → number ≡ k
+    → kind ≡ kindAt t k
+    → a ≡ aAt t k
+    → b ≡ bAt t k
+    → x ≡ recordAt bs at .kind
+    → y ≡ recordAt bs at .argument
+    → s ≡ shapeOf kind a b x y
     → s ≡ shapeAt t k bs at
 unfolding shapeAt
-look-full t k bs at kind a b s h ek ea eb e = rw (le-leb (at + 2) (length bs) h) (rw (ek, ea, eb) at e)
+look-full t k bs at number kind a b x y s h en n ek ea eb ex ey e =
+    rw (le-leb (at + recordSize) (length bs) h, eq-eqb (recordAt bs at .number) k (sym en ∙ n)) (rw (ek, ea, eb, ex, ey) at e)

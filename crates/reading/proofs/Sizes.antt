@@ -13,6 +13,7 @@ use Rattle.table.specs.Records.{count}
 use Rattle.table.specs.Faults.{Passes}
 use Rattle.table.specs.Expression.{expOf}
 use Rattle.table.proofs.Nodes.{nodes-bound}
+use Rattle.reading.specs.Codec.{recordSize}
 use Rattle.reading.specs.Fitting.{Fits, spelled}
 use Rattle.reading.proofs.Lengths.{encode-length, spelled-fits}
 
@@ -34,5 +35,5 @@ records-fits t p k l bs f = rw (spelled-fits f) (records-reads t p k l (f .reads
 -- the same in bytes
 pub bytes-fits :
     (t : List ℕ) → Passes t → (k : ℕ) → k < count t → (bs : List ℕ) → Fits t k bs
-    → length bs ≤ 2 * (count t * max (length (spelled bs)) 1)
-bytes-fits t p k l bs f = omega (arith, records-fits t p k l bs f, encode-length (f .reads), ap length (f .encoded))
+    → length bs ≤ recordSize * (count t * max (length (spelled bs)) 1)
+bytes-fits t p k l bs f = omega (arith, records-fits t p k l bs f, encode-length t k (f .reads), ap length (f .encoded))

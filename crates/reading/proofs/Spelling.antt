@@ -24,15 +24,12 @@ use Rattle.reading.proofs.Lengths.{spelled-fits}
 use Rattle.reading.proofs.Admission.{Admitted, start-inside, refusal-numbers, not-admitted}
 use Rattle.reading.proofs.Wholes.{Reading}
 
--- what is said of a reading that does not fit, one that spells over 255 bytes, and any other
+-- what is said of a reading that does not fit, and of one that does
 pub fits-missing : (p : Parsed) (said : Val → Said) → p ≡ missing → ifFits p said ≡ refuses 12 0
 fits-missing p said e = rw e
 
-pub fits-long : (p : Parsed) (v : Val) (said : Val → Said) → p ≡ found v → 255 < length (flat v) → ifFits p said ≡ refuses 13 0
-fits-long p v said e l = rw (e, lt-ltb 255 (length (flat v)) l)
-
-pub fits-short : (p : Parsed) (v : Val) (said : Val → Said) → p ≡ found v → length (flat v) ≤ 255 → ifFits p said ≡ said v
-fits-short p v said e l = rw (e, le-ltb 255 (length (flat v)) l)
+pub fits-said : (p : Parsed) (v : Val) (said : Val → Said) → p ≡ found v → ifFits p said ≡ said v
+fits-said p v said e = rw e
 
 -- a refusal leaves the buffer, and a result puts the bytes in front
 after-refused : (x : Said) (n d : ℕ) (bytes out : List ℕ) → x ≡ refuses n d → after x bytes out ≡ out
@@ -71,51 +68,42 @@ module _ {t : List ℕ} {k : ℕ} {bs : List ℕ} (out : List ℕ) (a : Admitted
   line : List ℕ
   line = flat (w .fitting .value)
 
-  -- 13
-  pub spell-long : 255 < n → (refuses 13 0 ≡ spellSays t k bs (length out)) × (out ≡ spellLeaves t k bs out)
-  spell-long l =
-      refused t k bs out 13 0
-      (said-fits t k bs out a
-      ∙ fits-long (readingOf t k bs) (w .fitting .value) (λ v. ifRoom (length out) (flat v) (length (flat v))) (fits-found (w .fitting))
-      (omega (arith, w .size)))
-
-  said-room : n ≤ 255 → spellSays t k bs (length out) ≡ ifRoom (length out) line (length line)
+  said-room : spellSays t k bs (length out) ≡ ifRoom (length out) line (length line)
   unfolding line
-  said-room l =
+  said-room =
       said-fits t k bs out a
-      ∙ fits-short (readingOf t k bs) (w .fitting .value) (λ v. ifRoom (length out) (flat v) (length (flat v))) (fits-found (w .fitting))
-      (omega (arith, w .size))
+      ∙ fits-said (readingOf t k bs) (w .fitting .value) (λ v. ifRoom (length out) (flat v) (length (flat v))) (fits-found (w .fitting))
 
   -- 11
-  pub spell-buffer : n ≤ 255 → length out < n → (refuses 11 n ≡ spellSays t k bs (length out)) × (out ≡ spellLeaves t k bs out)
+  pub spell-buffer : length out < n → (refuses 11 n ≡ spellSays t k bs (length out)) × (out ≡ spellLeaves t k bs out)
   unfolding line
-  spell-buffer l m =
+  spell-buffer m =
       refused t k bs out 11 n
-      (said-room l
+      (said-room
       ∙ ap (λ (b : Bool). orElse b (refuses 11 (length line)) (gives (length line))) (lt-ltb (length out) (length line) (omega (arith, w .size)))
       ∙ ap (refuses 11) (sym (w .size)))
 
-  said-done : n ≤ 255 → n ≤ length out → spellSays t k bs (length out) ≡ gives (length line)
+  said-done : n ≤ length out → spellSays t k bs (length out) ≡ gives (length line)
   unfolding line
-  said-done l m =
-      said-room l
+  said-done m =
+      said-room
       ∙ ap (λ (b : Bool). orElse b (refuses 11 (length line)) (gives (length line))) (le-ltb (length out) (length line) (omega (arith, w .size)))
 
-  left-done : n ≤ 255 → n ≤ length out → spellLeaves t k bs out ≡ line ++ drop (length line) out
+  left-done : n ≤ length out → spellLeaves t k bs out ≡ line ++ drop (length line) out
   unfolding spellLeaves line
-  left-done l m =
-      after-gives (spellSays t k bs (length out)) (length line) (bytesOf (readingOf t k bs) (λ v. flat v)) out (said-done l m)
+  left-done m =
+      after-gives (spellSays t k bs (length out)) (length line) (bytesOf (readingOf t k bs) (λ v. flat v)) out (said-done m)
       ∙ ap (λ (p : Parsed). bytesOf p (λ v. flat v) ++ drop (length (bytesOf p (λ v. flat v))) out) (fits-found (w .fitting))
 
   -- the result
   pub spell-done :
-      n ≤ 255 → n ≤ length out → {size : ℕ} {left : List ℕ} → size ≡ length (spelled bs)
+      n ≤ length out → {size : ℕ} {left : List ℕ} → size ≡ length (spelled bs)
       → left ≡ spelled bs ++ drop (length (spelled bs)) out
       → (gives size ≡ spellSays t k bs (length out)) × (left ≡ spellLeaves t k bs out)
   unfolding line
-  spell-done l m e f = (
-    ap gives (e ∙ ap length (spelled-fits (w .fitting))) ∙ sym (said-done l m),
-    f ∙ ap (λ (s : List ℕ). s ++ drop (length s) out) (spelled-fits (w .fitting)) ∙ sym (left-done l m),
+  spell-done m e f = (
+    ap gives (e ∙ ap length (spelled-fits (w .fitting))) ∙ sym (said-done m),
+    f ∙ ap (λ (s : List ℕ). s ++ drop (length s) out) (spelled-fits (w .fitting)) ∙ sym (left-done m),
   )
 
 -- there is room for the line
@@ -124,12 +112,11 @@ spell-room out w m = omega (arith, w .size, ap length (spelled-fits (w .fitting)
 
 -- Spell writes the line that a fitting reading spells, and returns its length
 pub spell-writes :
-    (t : List ℕ) (k : ℕ) (bs out : List ℕ) → Passes t → k < count t → (f : Fits t k bs) → length (flat (f .value)) ≤ 255
-    → length (flat (f .value)) ≤ length out
+    (t : List ℕ) (k : ℕ) (bs out : List ℕ) → Passes t → k < count t → (f : Fits t k bs) → length (flat (f .value)) ≤ length out
     → (spellSays t k bs (length out) ≡ gives (length (flat (f .value))))
     × (spellLeaves t k bs out ≡ flat (f .value) ++ drop (length (flat (f .value))) out)
 unfolding line
-spell-writes t k bs out p l f short room =
+spell-writes t k bs out p l f room =
     let w : Reading t k bs (length (flat (f .value))) = record { fitting = f; size = refl } in
     let a : Admitted t k = start-inside t k p l in
-    (said-done out a w short room, left-done out a w short room)
+    (said-done out a w room, left-done out a w room)

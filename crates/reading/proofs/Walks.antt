@@ -4,13 +4,12 @@ use Prim.Native.Nat.{ℕ, zero, suc, _+_, _-_, _≤_, _<_}
 use mathlib.Core.Path.{_≡_, refl, sym, _∙_, ap, subst}
 use mathlib.Core.Bool.{Bool, true, false, _&&_}
 use mathlib.Core.List.{List, [], _∷_, _++_}
-use mathlib.Core.Logic.{_⊎_, inl, inr, ⊎-elim}
-use native.Mathlib.Numerals.{add-one, add-two}
+use mathlib.Core.Logic.{inl, inr}
 use native.Mathlib.Omega.{arith}
-use borrow.Author.Tests.{le-leb, lt-leb, leb-true, leb-false}
+use borrow.Author.Tests.{leb-true, leb-false, ne-eqb}
 use lib.Dec.{eqb, leb}
-use lib.ListN.{length, getD, drop, length-append, length-drop}
-use lib.Seq.{drop-cons, drop-drop, drop-append-seam}
+use lib.ListN.{length, drop, length-append, length-drop}
+use lib.Seq.{drop-drop, drop-append-seam}
 use Rattle.regex.specs.Expressions.{ByteSet, within, outside, holds, Exp, nothing, empty, letter, or, seq, star}
 use Rattle.regex.specs.Values.{Val, void, byte, left, right, pair, none, more, flat, Reads}
 use Rattle.table.specs.Records.{count, kindAt, aAt, bAt}
@@ -23,30 +22,19 @@ use Rattle.reading.specs.declared.Fit.{Fit}
 use Rattle.reading.specs.declared.Fit.the-variants.{Found, Unfit}
 use Rattle.reading.specs.declared.Shape.{Shape}
 use Rattle.reading.specs.declared.Shape.the-variants.{Leaf, Left, Right, Both, Many, Wrong}
-use Rattle.reading.specs.Codec.{encode, encodeItems, Decoded, fits, unfit, under, chain, pick, nonEmpty, decodeItems, atRecord, decode}
-use Rattle.reading.specs.Fitting.{stepped}
-use Rattle.reading.specs.Walks.{pickShape, letterShape, shapeOf, shapeAt, leaf, decodeBy, spanOf, fitAt, fitItems, longer, thenFit, unlessEmpty, spellingPart, fitBy}
-use Rattle.reading.proofs.Codec.{decode-sound}
+use Rattle.reading.specs.Codec.{recordSize, recordBytes, recordAt, encode, Decoded, fits, unfit, under, chain, pick, nonEmpty, decodeItems, isLength, held, atRecord, decode}
+use Rattle.reading.specs.Walks.{pickShape, letterShape, shapeOf, shapeBy, shapeAt, leaf, decodeBy, spanOf, fitAt, fitItems, longer, thenFit, unlessEmpty, spellingPart, fitBy, lengthAt, fitIf, heldPart}
+use Rattle.reading.proofs.Codec.{length-written, decode-sound}
 use Rattle.reading.proofs.Lengths.{encode-length, flat-records, records-some}
-
--- a place with a record left: its kind and argument, and the bytes after it
-pub drop-record : (bs : List ℕ) (at : ℕ) → at + 2 ≤ length bs → drop at bs ≡ getD bs at 0 ∷ getD bs (at + 1) 0 ∷ drop (at + 2) bs
-drop-record bs at h =
-    rw (add-one at, add-two at) (drop-cons bs at 0 (omega arith) ∙ ap (λ (r : List ℕ). getD bs at 0 ∷ r) (drop-cons bs (suc at) 0 (omega arith)))
-
--- a place moves on by one record
-pub stepped-on : (bs : List ℕ) (at : ℕ) → at + 2 ≤ length bs → stepped bs at ≡ at + 2
-stepped-on bs at h = rw (le-leb (at + 2) (length bs) h)
-
--- and stays where less than a record is left
-pub stepped-not : (bs : List ℕ) (at : ℕ) → length bs < at + 2 → stepped bs at ≡ at
-stepped-not bs at h = rw (lt-leb (at + 2) (length bs) h)
+use Rattle.reading.proofs.Places.{drop-record}
 
 -- a place with less than a record left
-short-list : (f : ℕ → ℕ → List ℕ → Decoded) (bs : List ℕ) → length bs < 2 → atRecord f bs ≡ unfit
-short-list f [] h = refl
-short-list f (x ∷ []) h = refl
-short-list f (x ∷ (y ∷ bs)) h = absurd (omega arith)
+short-list : (k : ℕ) (f : ℕ → ℕ → List ℕ → Decoded) (bs : List ℕ) → length bs < recordSize → atRecord k f bs ≡ unfit
+short-list k f [] h = refl
+short-list k f (x ∷ []) h = refl
+short-list k f (x ∷ (y ∷ [])) h = refl
+short-list k f (x ∷ (y ∷ (n ∷ []))) h = refl
+short-list k f (x ∷ (y ∷ (n ∷ (i ∷ bs)))) h = absurd (omega arith)
 
 -- bytes that are over start at a place of their own
 pub record Over (bs : List ℕ) (at : ℕ) (rest : List ℕ) : Type 0 where
@@ -106,8 +94,10 @@ nonEmpty-over (fits u o) v rest e = go (flat u) refl e
     go (c ∷ s) p q = rw p at q
 
 -- the bytes over a part that was found
-decode-over : (r : Exp) (bs : List ℕ) (at : ℕ) → at ≤ length bs → (v : Val) (rest : List ℕ) → decode r (drop at bs) ≡ fits v rest → Over bs at rest
-decode-over r bs at h v rest e = over bs (encode v) rest at h (decode-sound r (drop at bs) v rest e .1)
+decode-over :
+    (t : List ℕ) (k : ℕ) (r : Exp) (bs : List ℕ) (at : ℕ) → at ≤ length bs
+    → (v : Val) (rest : List ℕ) → decode t k r (drop at bs) ≡ fits v rest → Over bs at rest
+decode-over t k r bs at h v rest e = over bs (encode t k v) rest at h (decode-sound t k r (drop at bs) v rest e .1)
 
 -- no iterations
 pub items-zero : (t : List ℕ) (c : ℕ) (bs : List ℕ) (at : ℕ) → at ≤ length bs → fitItems t c 0 bs at ≡ Found (record { next = record { at = at }; size = 0 })
@@ -122,152 +112,239 @@ pub items-suc :
     → fitItems t c (suc n) bs at ≡ thenFit (spellingPart (fitAt t c bs at)) (λ next. fitItems t c n bs next)
 unfolding fitItems fitAt
 items-suc t c n bs at h =
-    span-chain more (λ v w. refl) bs at (nonEmpty (decode (expOf t c) (drop at bs))) (decodeItems (λ o. decode (expOf t c) o) n)
-    (λ v rest e. decode-over (expOf t c) bs at h v rest (nonEmpty-over (decode (expOf t c) (drop at bs)) v rest e))
-    ∙ ap (λ (f : Fit). thenFit f (λ next. spanOf (length bs) (decodeItems (λ o. decode (expOf t c) o) n (drop next bs))))
-    (span-nonEmpty (length bs) (decode (expOf t c) (drop at bs)))
+    span-chain more (λ v w. refl) bs at (nonEmpty (decode t c (expOf t c) (drop at bs))) (decodeItems (λ o. decode t c (expOf t c) o) n)
+    (λ v rest e. decode-over t c (expOf t c) bs at h v rest (nonEmpty-over (decode t c (expOf t c) (drop at bs)) v rest e))
+    ∙ ap (λ (f : Fit). thenFit f (λ next. spanOf (length bs) (decodeItems (λ o. decode t c (expOf t c) o) n (drop next bs))))
+    (span-nonEmpty (length bs) (decode t c (expOf t c) (drop at bs)))
 
 -- what is known of the record at a place by its shape
-abbrev pub Known : List ℕ → ℕ → List ℕ → ℕ → Shape → Type 0
-Known t k bs at (Leaf n) = (at + 2 ≤ length bs) × (n ≤ 1)
-Known t k bs at (Left c) = (at + 2 ≤ length bs) × (c < k) × (kindAt t k ≡ 3) × (c ≡ aAt t k)
-Known t k bs at (Right c) = (at + 2 ≤ length bs) × (c < k) × (kindAt t k ≡ 3) × (c ≡ bAt t k)
-Known t k bs at (Both c d) = (at + 2 ≤ length bs) × (c < k) × (d < k) × (kindAt t k ≡ 4) × (c ≡ aAt t k) × (d ≡ bAt t k)
-Known t k bs at (Many c n) = (at + 2 ≤ length bs) × (c < k) × (kindAt t k ≡ 5) × (c ≡ aAt t k) × (n ≡ getD bs (at + 1) 0)
-Known t k bs at Wrong = Unit {0}
+abbrev pub Known : ℕ → List ℕ → ℕ → Shape → Type 0
+Known k bs at (Leaf n) = (at + recordSize ≤ length bs) × (n ≤ 1)
+Known k bs at (Left c) = (at + recordSize ≤ length bs) × (c < k)
+Known k bs at (Right c) = (at + recordSize ≤ length bs) × (c < k)
+Known k bs at (Both c d) = (at + recordSize ≤ length bs) × (c < k) × (d < k)
+Known k bs at (Many c n) = (at + recordSize ≤ length bs) × (c < k)
+Known k bs at Wrong = Unit {0}
 
--- the shape of a place's record: what is known of it, and what decoding finds there
+-- the shape of a place's record: what is known of it, and what decoding finds there, if the length that is written is the one that is spelled
 pub record Shaped (t : List ℕ) (k : ℕ) (bs : List ℕ) (at : ℕ) (s : Shape) : Type 0 where
-  pub known : Known t k bs at s
-  pub decoded : decode (expOf t k) (drop at bs) ≡ decodeBy t bs at s
+  pub known : Known k bs at s
+  pub decoded : decode t k (expOf t k) (drop at bs) ≡ held (recordAt bs at .size) (decodeBy t bs at s)
 
 -- less than a record left: nothing fits
-decode-short : (r : Exp) (bs : List ℕ) → length bs < 2 → decode r bs ≡ unfit
-decode-short nothing bs h = refl
-decode-short empty bs h = short-list _ bs h
-decode-short (letter b) bs h = short-list _ bs h
-decode-short (or r1 r2) bs h = short-list _ bs h
-decode-short (seq r1 r2) bs h = short-list _ bs h
-decode-short (star r) bs h = short-list _ bs h
+decode-short : (t : List ℕ) (k : ℕ) (r : Exp) (bs : List ℕ) → length bs < recordSize → decode t k r bs ≡ unfit
+decode-short t k nothing bs h = refl
+decode-short t k empty bs h = short-list k _ bs h
+decode-short t k (letter b) bs h = short-list k _ bs h
+decode-short t k (or r1 r2) bs h = short-list k _ bs h
+decode-short t k (seq r1 r2) bs h = short-list k _ bs h
+decode-short t k (star r) bs h = short-list k _ bs h
+
+-- nothing is found of nothing, whatever the length and the number
+held-nothing : (n : ℕ) (b : Bool) → unfit ≡ held n (pick b unfit unfit)
+held-nothing n true = refl
+held-nothing n false = refl
 
 module _ (t : List ℕ) (p : Passes t) (k : ℕ) (l : k < count t) (bs : List ℕ) (at : ℕ) where
+  -- the record's kind, argument, length and number, and the bytes behind it
+  x : ℕ
+  x = recordAt bs at .kind
+
+  y : ℕ
+  y = recordAt bs at .argument
+
+  rest : List ℕ
+  rest = drop (at + recordSize) bs
+
+  -- what is found below the record, and its shape
+  abbrev Found-as : Decoded → Shape → Type 0
+  Found-as d s = (d ≡ decodeBy t bs at s) × Known k bs at s
+
   -- a test picks what is found and the shape together
-  picked :
-      (b : Bool) (x y : Decoded) (s u : Shape) → (x ≡ decodeBy t bs at s) × Known t k bs at s
-      → (y ≡ decodeBy t bs at u) × Known t k bs at u
-      → (pick b x y ≡ decodeBy t bs at (pickShape b s u)) × Known t k bs at (pickShape b s u)
-  picked true x y s u e f = e
-  picked false x y s u e f = f
+  picked : (b : Bool) {d e : Decoded} (s u : Shape) → Found-as d s → Found-as e u → Found-as (pick b d e) (pickShape b s u)
+  picked true s u f g = f
+  picked false s u f g = g
 
-  -- where a record is left, at a letter
-  full-letter :
-      (s : ByteSet) → at + 2 ≤ length bs → expOf t k ≡ letter s
-      → (decode (expOf t k) (getD bs at 0 ∷ getD bs (at + 1) 0 ∷ drop (at + 2) bs)
-      ≡ decodeBy t bs at (letterShape s (getD bs at 0) (getD bs (at + 1) 0)))
-      × Known t k bs at (letterShape s (getD bs at 0) (getD bs (at + 1) 0))
-  full-letter s h e =
-      rw e
-      (picked (eqb (getD bs at 0) 1 && holds s (getD bs (at + 1) 0)) (fits (byte (getD bs (at + 1) 0)) (drop (at + 2) bs)) unfit (Leaf 1) Wrong
-      (refl, (h, omega arith))
-      (refl, tt))
+  wrong : Found-as unfit Wrong
+  wrong = (refl, tt)
 
-  -- where a record is left
-  full :
-      at + 2 ≤ length bs → (kind : ℕ) → kindAt t k ≡ kind
-      → (decode (expOf t k) (getD bs at 0 ∷ getD bs (at + 1) 0 ∷ drop (at + 2) bs)
-      ≡ decodeBy t bs at (shapeOf kind (aAt t k) (bAt t k) (getD bs at 0) (getD bs (at + 1) 0)))
-      × Known t k bs at (shapeOf kind (aAt t k) (bAt t k) (getD bs at 0) (getD bs (at + 1) 0))
-  full h zero e = rw (exp-nothing t k e) (refl, tt)
+  -- where a record is left, by the kind of record k: what is found below the record
+  record Full (kind : ℕ) : Type 0 where
+    below : Decoded
+    decoded-as :
+        decode t k (expOf t k) (recordBytes (recordAt bs at) ++ rest)
+        ≡ held (recordAt bs at .size) (pick (eqb (recordAt bs at .number) k) below unfit)
+    found-as : Found-as below (shapeOf kind (aAt t k) (bAt t k) x y)
+
+  full-letter : (kind : ℕ) (s : ByteSet) → at + recordSize ≤ length bs → expOf t k ≡ letter s → shapeOf kind (aAt t k) (bAt t k) x y ≡ letterShape s x y → Full kind
+  unfolding x y rest
+  full-letter kind s h e f =
+      record {
+        below = pick (eqb x 1 && holds s y) (fits (byte y) rest) unfit;
+        decoded-as = rw e refl;
+        found-as = subst (Found-as _) (sym f) (picked (eqb x 1 && holds s y) (Leaf 1) Wrong (refl, (h, omega arith)) wrong);
+      }
+
+  full : at + recordSize ≤ length bs → (kind : ℕ) → kindAt t k ≡ kind → Full kind
+  unfolding x y rest
+  full h zero e =
+      record { below = unfit; decoded-as = rw (exp-nothing t k e) (held-nothing (recordAt bs at .size) (eqb (recordAt bs at .number) k)); found-as = wrong }
   full h (suc zero) e =
-      rw (exp-empty t k e)
-      (picked (eqb (getD bs at 0) 0 && eqb (getD bs (at + 1) 0) 0) (fits void (drop (at + 2) bs)) unfit (Leaf 0) Wrong
-      (refl, (h, omega arith))
-      (refl, tt))
-  full h (suc (suc zero)) e = full-letter (within (aAt t k) (bAt t k)) h (exp-letter t k (letter-at t k refl (inl e)) ∙ rw e)
+      record {
+        below = pick (eqb x 0 && eqb y 0) (fits void rest) unfit;
+        decoded-as = rw (exp-empty t k e) refl;
+        found-as = picked (eqb x 0 && eqb y 0) (Leaf 0) Wrong (refl, (h, omega arith)) wrong;
+      }
+  full h (suc (suc zero)) e =
+      full-letter 2 (within (aAt t k) (bAt t k)) h (exp-letter t k (letter-at t k refl (inl e)) ∙ rw e) refl
   full h (suc (suc (suc zero))) e =
       let a : aAt t k < k = a-below t p k l (inl e) in
       let b : bAt t k < k = b-below t p k l (inl e) in
-      rw (exp-or t k e a b)
-      (picked (eqb (getD bs at 0) 2 && eqb (getD bs (at + 1) 0) 0) (under left (decode (expOf t (aAt t k)) (drop (at + 2) bs)))
-      (pick (eqb (getD bs at 0) 3 && eqb (getD bs (at + 1) 0) 0) (under right (decode (expOf t (bAt t k)) (drop (at + 2) bs))) unfit)
-      (Left (aAt t k)) (pickShape (eqb (getD bs at 0) 3 && eqb (getD bs (at + 1) 0) 0) (Right (bAt t k)) Wrong)
-      (refl, (h, a, e, refl))
-      (picked (eqb (getD bs at 0) 3 && eqb (getD bs (at + 1) 0) 0) (under right (decode (expOf t (bAt t k)) (drop (at + 2) bs))) unfit
-      (Right (bAt t k)) Wrong (refl, (h, b, e, refl)) (refl, tt)))
+      record {
+        below =
+            pick (eqb x 2 && eqb y 0) (under left (decode t (aAt t k) (expOf t (aAt t k)) rest))
+            (pick (eqb x 3 && eqb y 0) (under right (decode t (bAt t k) (expOf t (bAt t k)) rest)) unfit);
+        decoded-as = rw (exp-or t k e a b) refl;
+        found-as =
+            picked (eqb x 2 && eqb y 0) (Left (aAt t k)) (pickShape (eqb x 3 && eqb y 0) (Right (bAt t k)) Wrong) (refl, (h, a))
+            (picked (eqb x 3 && eqb y 0) (Right (bAt t k)) Wrong (refl, (h, b)) wrong);
+      }
   full h (suc (suc (suc (suc zero)))) e =
       let a : aAt t k < k = a-below t p k l (inr e) in
       let b : bAt t k < k = b-below t p k l (inr e) in
-      rw (exp-seq t k e a b)
-      (picked (eqb (getD bs at 0) 4 && eqb (getD bs (at + 1) 0) 0)
-      (chain pair (decode (expOf t (aAt t k)) (drop (at + 2) bs)) (λ o. decode (expOf t (bAt t k)) o)) unfit (Both (aAt t k) (bAt t k)) Wrong
-      (refl, (h, a, b, e, refl, refl))
-      (refl, tt))
+      record {
+        below =
+            pick (eqb x 4 && eqb y 0)
+            (chain pair (decode t (aAt t k) (expOf t (aAt t k)) rest) (λ o. decode t (bAt t k) (expOf t (bAt t k)) o)) unfit;
+        decoded-as = rw (exp-seq t k e a b) refl;
+        found-as = picked (eqb x 4 && eqb y 0) (Both (aAt t k) (bAt t k)) Wrong (refl, (h, a, b)) wrong;
+      }
   full h (suc (suc (suc (suc (suc zero))))) e =
       let a : aAt t k < k = star-a-below t p k l e in
-      rw (exp-star t k e a)
-      (picked (eqb (getD bs at 0) 5) (decodeItems (λ o. decode (expOf t (aAt t k)) o) (getD bs (at + 1) 0) (drop (at + 2) bs)) unfit
-      (Many (aAt t k) (getD bs (at + 1) 0)) Wrong (refl, (h, a, e, refl, refl)) (refl, tt))
-  full h (suc (suc (suc (suc (suc (suc zero)))))) e = full-letter (outside (aAt t k) (bAt t k)) h (exp-letter t k (letter-at t k refl (inr e)) ∙ rw e)
+      record {
+        below = pick (eqb x 5) (decodeItems (λ o. decode t (aAt t k) (expOf t (aAt t k)) o) y rest) unfit;
+        decoded-as = rw (exp-star t k e a) refl;
+        found-as = picked (eqb x 5) (Many (aAt t k) y) Wrong (refl, (h, a)) wrong;
+      }
+  full h (suc (suc (suc (suc (suc (suc zero)))))) e =
+      full-letter 6 (outside (aAt t k) (bAt t k)) h (exp-letter t k (letter-at t k refl (inr e)) ∙ rw e) refl
   full h (suc (suc (suc (suc (suc (suc (suc n))))))) e = absurd (omega (arith, kind-small t p k l))
 
   -- the shape of the record at a place says what decoding finds there
   pub shaped : Shaped t k bs at (shapeAt t k bs at)
-  unfolding shapeAt
-  shaped = go (leb (at + 2) (length bs)) refl
+  unfolding shapeAt x y rest
+  shaped = go (leb (at + recordSize) (length bs)) refl
     where
-      go : (b : Bool) → leb (at + 2) (length bs) ≡ b → Shaped t k bs at (pickShape b (shapeOf (kindAt t k) (aAt t k) (bAt t k) (getD bs at 0) (getD bs (at + 1) 0)) Wrong)
+      go : (b : Bool) → leb (at + recordSize) (length bs) ≡ b → Shaped t k bs at (pickShape b (shapeBy t k x y (recordAt bs at .number)) Wrong)
       go true e =
-          let f : at + 2 ≤ length bs = leb-true _ _ e in
-          record { known = full f (kindAt t k) refl .1; decoded = rw (drop-record bs at f) (full f (kindAt t k) refl .0) }
+          let f : at + recordSize ≤ length bs = leb-true _ _ e in
+          let g : Full (kindAt t k) = full f (kindAt t k) refl in
+          let n : Found-as (pick (eqb (recordAt bs at .number) k) (g .below) unfit) (shapeBy t k x y (recordAt bs at .number)) =
+          picked (eqb (recordAt bs at .number) k) (shapeOf (kindAt t k) (aAt t k) (bAt t k) x y) Wrong (g .found-as) wrong in
+          record {
+            known = n .1;
+            decoded = ap (decode t k (expOf t k)) (drop-record bs at f) ∙ g .decoded-as ∙ ap (held (recordAt bs at .size)) (n .0);
+          }
       go false e =
-          let f : length bs < at + 2 = leb-false _ _ e in
-          record { known = tt; decoded = decode-short (expOf t k) (drop at bs) (omega (arith, length-drop at bs)) }
+          let f : length bs < at + recordSize = leb-false _ _ e in
+          record { known = tt; decoded = decode-short t k (expOf t k) (drop at bs) (omega (arith, length-drop at bs)) }
 
 -- the part of a record that ends a branch
-span-leaf : (bs : List ℕ) (at n y : ℕ) → at + 2 ≤ length bs → n ≤ 1 → spanOf (length bs) (leaf n y (drop (at + 2) bs)) ≡ Found (record { next = record { at = at + 2 }; size = n })
+span-leaf : (bs : List ℕ) (at n y : ℕ) → at + recordSize ≤ length bs → n ≤ 1 → spanOf (length bs) (leaf n y (drop (at + recordSize) bs)) ≡ Found (record { next = record { at = at + recordSize }; size = n })
 span-leaf bs at n y h l = go n l
   where
-    end : length bs - length (drop (at + 2) bs) ≡ at + 2
-    end = omega (arith, length-drop (at + 2) bs)
+    end : length bs - length (drop (at + recordSize) bs) ≡ at + recordSize
+    end = omega (arith, length-drop (at + recordSize) bs)
 
-    go : (n : ℕ) → n ≤ 1 → spanOf (length bs) (leaf n y (drop (at + 2) bs)) ≡ Found (record { next = record { at = at + 2 }; size = n })
+    go : (n : ℕ) → n ≤ 1 → spanOf (length bs) (leaf n y (drop (at + recordSize) bs)) ≡ Found (record { next = record { at = at + recordSize }; size = n })
     go zero l = ap (λ (i : ℕ). Found (record { next = record { at = i }; size = 0 })) end
     go (suc zero) l = ap (λ (i : ℕ). Found (record { next = record { at = i }; size = 1 })) end
     go (suc (suc n)) l = absurd (omega arith)
 
 -- the part at a place by the shape of its record
-span-by : (t : List ℕ) (k : ℕ) (bs : List ℕ) (at : ℕ) (s : Shape) → Known t k bs at s → spanOf (length bs) (decodeBy t bs at s) ≡ fitBy t bs at s
+span-by : (t : List ℕ) (k : ℕ) (bs : List ℕ) (at : ℕ) (s : Shape) → Known k bs at s → spanOf (length bs) (decodeBy t bs at s) ≡ fitBy t bs at s
 unfolding fitAt fitItems
-span-by t k bs at (Leaf n) w = span-leaf bs at n (getD bs (at + 1) 0) (w .0) (w .1)
-span-by t k bs at (Left c) w = span-under left (λ v. refl) (length bs) (decode (expOf t c) (drop (at + 2) bs))
-span-by t k bs at (Right c) w = span-under right (λ v. refl) (length bs) (decode (expOf t c) (drop (at + 2) bs))
+span-by t k bs at (Leaf n) w = span-leaf bs at n (recordAt bs at .argument) (w .0) (w .1)
+span-by t k bs at (Left c) w = span-under left (λ v. refl) (length bs) (decode t c (expOf t c) (drop (at + recordSize) bs))
+span-by t k bs at (Right c) w = span-under right (λ v. refl) (length bs) (decode t c (expOf t c) (drop (at + recordSize) bs))
 span-by t k bs at (Both c d) w =
-    span-chain pair (λ v u. refl) bs (at + 2) (decode (expOf t c) (drop (at + 2) bs)) (λ o. decode (expOf t d) o)
-    (λ v rest e. decode-over (expOf t c) bs (at + 2) (w .0) v rest e)
+    span-chain pair (λ v u. refl) bs (at + recordSize) (decode t c (expOf t c) (drop (at + recordSize) bs)) (λ o. decode t d (expOf t d) o)
+    (λ v rest e. decode-over t c (expOf t c) bs (at + recordSize) (w .0) v rest e)
 span-by t k bs at (Many c n) w = refl
 span-by t k bs at Wrong w = refl
 
--- the part that starts at a place by the shape of its record
-pub fit-shaped : (t : List ℕ) (k : ℕ) (bs : List ℕ) (at : ℕ) (s : Shape) → Shaped t k bs at s → fitAt t k bs at ≡ fitBy t bs at s
-unfolding fitAt
-fit-shaped t k bs at s h = ap (spanOf (length bs)) (h .decoded) ∙ span-by t k bs at s (h .known)
+-- a part whose length is held against the one that is written
+span-held : (n m : ℕ) (d : Decoded) → spanOf n (held m d) ≡ heldPart m (spanOf n d)
+span-held n m (fits v rest) = go (isLength m (length (flat v)))
+  where
+    go :
+        (b : Bool)
+        → spanOf n (pick b (fits v rest) unfit) ≡ fitIf b (Found (record { next = record { at = n - length rest }; size = length (flat v) }))
+    go true = refl
+    go false = refl
+span-held n m unfit = refl
+
+module _ (t : List ℕ) (p : Passes t) (k : ℕ) (l : k < count t) (bs : List ℕ) (at : ℕ) where
+  -- the part that starts at a place is the one by its children, if the length that is written there is the sum of theirs
+  pub fit-held : fitAt t k bs at ≡ heldPart (recordAt bs at .size) (lengthAt t k bs at)
+  unfolding fitAt lengthAt
+  fit-held =
+      ap (spanOf (length bs)) (shaped t p k l bs at .decoded)
+      ∙ span-held (length bs) (recordAt bs at .size) (decodeBy t bs at (shapeAt t k bs at))
+      ∙ ap (heldPart (recordAt bs at .size)) (span-by t k bs at (shapeAt t k bs at) (shaped t p k l bs at .known))
+
+  -- a part has a record
+  pub length-there : {s : Span} → lengthAt t k bs at ≡ Found s → at + recordSize ≤ length bs
+  unfolding lengthAt
+  length-there {s} e = go (shapeAt t k bs at) (shaped t p k l bs at .known) e
+    where
+      go : (u : Shape) → Known k bs at u → fitBy t bs at u ≡ Found s → at + recordSize ≤ length bs
+      go (Leaf n) w f = w .0
+      go (Left c) w f = w .0
+      go (Right c) w f = w .0
+      go (Both c d) w f = w .0
+      go (Many c n) w f = w .0
+      go Wrong w f = let z : _≡_ {A = ℕ} 0 1 = cc in absurd (omega arith)
+
+  -- the ways out of `fit_element`: the length that is written is the sum, or is not, or no part is there
+  pub held-found : {r : Fit} {s : Span} {n : ℕ} → r ≡ lengthAt t k bs at → r ≡ Found s → n ≡ recordAt bs at .size → n < 256 → n ≡ s .size → Found s ≡ fitAt t k bs at
+  held-found {r} {s} {n} e f g h i =
+      sym
+      (fit-held ∙ ap (heldPart (recordAt bs at .size)) (sym e ∙ f)
+      ∙ ap (λ (b : Bool). fitIf b (Found s)) (length-written (recordAt bs at .size) (s .size) (sym g ∙ i) (omega arith)))
+
+  pub held-other : {r : Fit} {s : Span} {n : ℕ} → r ≡ lengthAt t k bs at → r ≡ Found s → n ≡ recordAt bs at .size → ¬ (n ≡ s .size) → Unfit ≡ fitAt t k bs at
+  held-other {r} {s} {n} e f g i =
+      sym
+      (fit-held ∙ ap (heldPart (recordAt bs at .size)) (sym e ∙ f)
+      ∙ ap (λ (b : Bool). fitIf (b && leb (recordAt bs at .size) 255) (Found s)) (ne-eqb (recordAt bs at .size) (s .size) (λ z. i (g ∙ z))))
+
+  pub held-unfit : {r : Fit} → r ≡ lengthAt t k bs at → r ≡ Unfit → Unfit ≡ fitAt t k bs at
+  held-unfit {r} e f = sym (fit-held ∙ ap (heldPart (recordAt bs at .size)) (sym e ∙ f))
 
 -- where a part that was found ends, and how many bytes it can spell
 pub record Bounds (bs : List ℕ) (at : ℕ) (s : Span) : Type 0 where
   pub end : s .next .at ≤ length bs
-  pub room : at + 2 + s .size ≤ s .next .at + 1
+  pub room : at + s .size < s .next .at
+  pub small : s .size ≤ 255
 
-span-bounds : (r : Exp) (bs : List ℕ) (at : ℕ) → at ≤ length bs → (d : Decoded) → decode r (drop at bs) ≡ d → (s : Span) → spanOf (length bs) d ≡ Found s → Bounds bs at s
-span-bounds r bs at h (fits v rest) e s f =
-    let x : Reads r v × (drop at bs ≡ encode v ++ rest) = decode-sound r (drop at bs) v rest e in
-    let l : length bs - at ≡ length (encode v) + length rest = sym (length-drop at bs) ∙ ap length (x .1) ∙ length-append (encode v) rest in
+span-bounds :
+    (t : List ℕ) (k : ℕ) (r : Exp) (bs : List ℕ) (at : ℕ) → at ≤ length bs
+    → (d : Decoded) → decode t k r (drop at bs) ≡ d → (s : Span) → spanOf (length bs) d ≡ Found s → Bounds bs at s
+span-bounds t k r bs at h (fits v rest) e s f =
+    let x : Reads r v × (drop at bs ≡ encode t k v ++ rest) × (length (flat v) ≤ 255) = decode-sound t k r (drop at bs) v rest e in
+    let l : length bs - at ≡ length (encode t k v) + length rest = sym (length-drop at bs) ∙ ap length (x .1) ∙ length-append (encode t k v) rest in
     let g : _≡_ {A = Span} (record { next = record { at = length bs - length rest }; size = length (flat v) }) s = cc in
     let a : length bs - length rest ≡ s .next .at = ap (λ (u : Span). u .next .at) g in
     let b : length (flat v) ≡ s .size = ap (λ (u : Span). u .size) g in
-    record { end = omega arith; room = omega (arith, encode-length (x .0), flat-records (x .0), records-some (x .0)) }
-span-bounds r bs at h unfit e s f = let z : _≡_ {A = ℕ} 0 1 = cc in absurd (omega arith)
+    record {
+      end = omega arith;
+      room = omega (arith, encode-length t k (x .0), flat-records (x .0), records-some (x .0));
+      small = omega (arith, x .2);
+    }
+span-bounds t k r bs at h unfit e s f = let z : _≡_ {A = ℕ} 0 1 = cc in absurd (omega arith)
 
--- a part ends inside the reading, and spells at most a byte for each of its records
+-- a part ends inside the reading, and spells at most a byte for each of its records, and at most 255
 pub fit-bounds : (t : List ℕ) (k : ℕ) (bs : List ℕ) (at : ℕ) → at ≤ length bs → (s : Span) → fitAt t k bs at ≡ Found s → Bounds bs at s
 unfolding fitAt
-fit-bounds t k bs at h s e = span-bounds (expOf t k) bs at h (decode (expOf t k) (drop at bs)) refl s e
+fit-bounds t k bs at h s e = span-bounds t k (expOf t k) bs at h (decode t k (expOf t k) (drop at bs)) refl s e

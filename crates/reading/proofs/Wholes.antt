@@ -17,7 +17,7 @@ use Rattle.reading.specs.Codec.{Decoded, fits, unfit, encode, decode}
 use Rattle.reading.specs.Fitting.{Fits, whole, readingOf}
 use Rattle.reading.specs.Walks.{spanOf, fitAt, sized, wholeAt}
 use Rattle.reading.proofs.Codec.{decode-sound}
-use Rattle.reading.proofs.Fitting.{reading-sound}
+use Rattle.reading.proofs.Fitting.{found-fits}
 
 -- what decoding found, with no byte over and with some
 sized-found :
@@ -44,24 +44,24 @@ sized-unfit : (n : ℕ) (d : Decoded) → spanOf n d ≡ Unfit → Misfit ≡ si
 sized-unfit n (fits v rest) e = let z : _≡_ {A = ℕ} 0 1 = cc in absurd (omega arith)
 sized-unfit n unfit e = refl
 
-over-length : (r : Exp) (bs : List ℕ) (v : Val) (rest : List ℕ) → decode r bs ≡ fits v rest → length rest ≤ length bs
-over-length r bs v rest e =
-    let x : Reads r v × (bs ≡ encode v ++ rest) = decode-sound r bs v rest e in
-    omega (arith, ap length (x .1), length-append (encode v) rest)
+over-length : (t : List ℕ) (k : ℕ) (r : Exp) (bs : List ℕ) (v : Val) (rest : List ℕ) → decode t k r bs ≡ fits v rest → length rest ≤ length bs
+over-length t k r bs v rest e =
+    let x : Reads r v × (bs ≡ encode t k v ++ rest) × (length (flat v) ≤ 255) = decode-sound t k r bs v rest e in
+    omega (arith, ap length (x .1), length-append (encode t k v) rest)
 
 module _ (t : List ℕ) (k : ℕ) (bs : List ℕ) where
   -- the part at the front ends with the last byte, before it, or is not there
   pub whole-spells : (s : Span) → fitAt t k bs 0 ≡ Found s → s .next .at ≡ length bs → Spells (s .size) ≡ wholeAt t k bs
   unfolding fitAt wholeAt readingOf
-  whole-spells s = sized-found bs (decode (expOf t k) bs) (over-length (expOf t k) bs) s
+  whole-spells s = sized-found bs (decode t k (expOf t k) bs) (over-length t k (expOf t k) bs) s
 
   pub whole-over : (s : Span) → fitAt t k bs 0 ≡ Found s → ¬ (s .next .at ≡ length bs) → Misfit ≡ wholeAt t k bs
   unfolding fitAt wholeAt readingOf
-  whole-over s = sized-over bs (decode (expOf t k) bs) s
+  whole-over s = sized-over bs (decode t k (expOf t k) bs) s
 
   pub whole-unfit : fitAt t k bs 0 ≡ Unfit → Misfit ≡ wholeAt t k bs
   unfolding fitAt wholeAt readingOf
-  whole-unfit = sized-unfit (length bs) (decode (expOf t k) bs)
+  whole-unfit = sized-unfit (length bs) (decode t k (expOf t k) bs)
 
 -- a whole reading: it fits, and spells so many bytes
 pub record Reading (t : List ℕ) (k : ℕ) (bs : List ℕ) (n : ℕ) : Type 0 where
@@ -81,8 +81,8 @@ pub whole-reading : (t : List ℕ) (k : ℕ) (bs : List ℕ) (r : Whole) (n : �
 unfolding wholeAt
 whole-reading t k bs r n e f =
     let x : (v : Val) × (readingOf t k bs ≡ found v) × (n ≡ length (flat v)) = sized-spells (readingOf t k bs) n (sym f ∙ e) in
-    let y : Reads (expOf t k) (x .0) × (bs ≡ encode (x .0)) = reading-sound t k bs (x .0) (x .1) in
-    record { fitting = record { value = x .0; reads = y .0; encoded = y .1 }; size = x .2 }
+    let y : (f : Fits t k bs) × (f .value ≡ x .0) = found-fits t k bs (x .0) (x .1) in
+    record { fitting = y .0; size = x .2 ∙ ap (λ (v : Val). length (flat v)) (sym (y .1)) }
 
 pub whole-missing : (t : List ℕ) (k : ℕ) (bs : List ℕ) (r : Whole) → r ≡ wholeAt t k bs → r ≡ Misfit → readingOf t k bs ≡ missing
 unfolding wholeAt

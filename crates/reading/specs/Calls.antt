@@ -23,10 +23,10 @@ ifPassed (refuses n d) said = refuses n d
 abbrev pub ifStart : List ℕ → ℕ → Said → Said
 ifStart t k said = ifPassed (checked t) (orElse (not (ltb k (count t))) (refuses 9 0) said)
 
--- 12, then 13, then what is said of a reading that fits and spells at most 255 bytes
+-- 12, then what is said of a reading that fits
 abbrev pub ifFits : Parsed → (Val → Said) → Said
 ifFits missing said = refuses 12 0
-ifFits (found v) said = orElse (ltb 255 (length (flat v))) (refuses 13 0) (said v)
+ifFits (found v) said = said v
 
 -- what a call that writes says of a reading, and the bytes that it writes
 abbrev pub bytesOf : Parsed → (Val → List ℕ) → List ℕ

@@ -1,42 +1,85 @@
--- Readings as bytes (document 01, "Readings"): a value written parent first, in records of 2 bytes, kind and argument; and read back.
+-- Readings as bytes (document 01, "Readings", and document 02, request 6): a value written parent first, in records of 4 bytes, "kind, argument, bytes
+-- spelled, table record number"; and read back.
 -- Assumes nothing.
-use Prim.Native.Nat.{ℕ, zero, suc}
+use Prim.Native.Nat.{ℕ, zero, suc, _+_}
 use mathlib.Core.Bool.{Bool, true, false, _&&_}
 use mathlib.Core.List.{List, [], _∷_, _++_}
-use lib.Dec.{eqb}
+use lib.Dec.{eqb, leb}
+use lib.ListN.{length, getD}
 use Rattle.regex.specs.Expressions.{holds, Exp, nothing, empty, letter, or, seq, star}
 use Rattle.regex.specs.Values.{Val, void, byte, left, right, pair, none, more, flat}
+use Rattle.table.specs.Records.{aAt, bAt}
 
--- how many iterations a Stars value has
-abbrev pub iterations : Val → ℕ
-iterations void = 0
-iterations (byte c) = 0
-iterations (left v) = 0
-iterations (right v) = 0
-iterations (pair v w) = 0
-iterations none = 0
-iterations (more v w) = suc (iterations w)
+-- how many bytes a record has
+abbrev pub recordSize : ℕ
+recordSize = 4
 
-abbrev mutual
-  -- the value's records: 0 Void, 1 Byte, 2 Left, 3 Right, 4 Seq, 5 Stars with the count and then the iterations
-  pub encode : Val → List ℕ
-  encode void = 0 ∷ 0 ∷ []
-  encode (byte c) = 1 ∷ c ∷ []
-  encode (left v) = 2 ∷ 0 ∷ encode v
-  encode (right v) = 3 ∷ 0 ∷ encode v
-  encode (pair v w) = 4 ∷ 0 ∷ (encode v ++ encode w)
-  encode none = 5 ∷ 0 ∷ []
-  encode (more v w) = 5 ∷ suc (iterations w) ∷ (encode v ++ encodeItems w)
+-- a record by its fields: its kind, its argument, how many bytes its part spells, and the number of the table's record that reads the part
+pub record Record : Type 0 where
+  pub kind : ℕ
+  pub argument : ℕ
+  pub size : ℕ
+  pub number : ℕ
 
-  -- the iterations of a Stars value, one after the other
-  pub encodeItems : Val → List ℕ
-  encodeItems void = []
-  encodeItems (byte c) = []
-  encodeItems (left v) = []
-  encodeItems (right v) = []
-  encodeItems (pair v w) = []
-  encodeItems none = []
-  encodeItems (more v w) = encode v ++ encodeItems w
+-- its bytes
+abbrev pub recordBytes : Record → List ℕ
+recordBytes r = (r .kind) ∷ ((r .argument) ∷ ((r .size) ∷ ((r .number) ∷ [])))
+
+-- the same by the fields
+abbrev pub recordWith : ℕ → ℕ → ℕ → ℕ → List ℕ
+recordWith x y n k = recordBytes (record { kind = x; argument = y; size = n; number = k })
+
+-- the record whose bytes stand at a place
+abbrev pub recordAt : List ℕ → ℕ → Record
+recordAt bs at = record { kind = getD bs at 0; argument = getD bs (at + 1) 0; size = getD bs (at + 2) 0; number = getD bs (at + 3) 0 }
+
+-- the records of a byte sequence; less than a record at its end is none
+abbrev pub recordsOf : List ℕ → List Record
+recordsOf [] = []
+recordsOf (x ∷ []) = []
+recordsOf (x ∷ (y ∷ [])) = []
+recordsOf (x ∷ (y ∷ (n ∷ []))) = []
+recordsOf (x ∷ (y ∷ (n ∷ (k ∷ bs)))) = record { kind = x; argument = y; size = n; number = k } ∷ recordsOf bs
+
+-- a value's kind: 0 Void, 1 Byte, 2 Left, 3 Right, 4 Seq, 5 Stars
+abbrev pub kindOf : Val → ℕ
+kindOf void = 0
+kindOf (byte c) = 1
+kindOf (left v) = 2
+kindOf (right v) = 3
+kindOf (pair v w) = 4
+kindOf none = 5
+kindOf (more v w) = 5
+
+-- its argument: a Byte's byte, the count of the iterations of Stars, otherwise 0
+abbrev pub argumentOf : Val → ℕ
+argumentOf void = 0
+argumentOf (byte c) = c
+argumentOf (left v) = 0
+argumentOf (right v) = 0
+argumentOf (pair v w) = 0
+argumentOf none = 0
+argumentOf (more v w) = suc (argumentOf w)
+
+-- the record of a value that the table's record k reads
+abbrev pub headOf : ℕ → Val → Record
+headOf k v = record { kind = kindOf v; argument = argumentOf v; size = length (flat v); number = k }
+
+-- the records below that of a value that record k of the table reads: those of its children, one behind the other. What follows an iteration is a
+-- value of the same Star.
+abbrev pub encodeBelow : List ℕ → ℕ → Val → List ℕ
+encodeBelow t k void = []
+encodeBelow t k (byte c) = []
+encodeBelow t k (left v) = recordBytes (headOf (aAt t k) v) ++ encodeBelow t (aAt t k) v
+encodeBelow t k (right v) = recordBytes (headOf (bAt t k) v) ++ encodeBelow t (bAt t k) v
+encodeBelow t k (pair v w) =
+    (recordBytes (headOf (aAt t k) v) ++ encodeBelow t (aAt t k) v) ++ (recordBytes (headOf (bAt t k) w) ++ encodeBelow t (bAt t k) w)
+encodeBelow t k none = []
+encodeBelow t k (more v w) = (recordBytes (headOf (aAt t k) v) ++ encodeBelow t (aAt t k) v) ++ encodeBelow t k w
+
+-- the records of a value that record k of the table reads
+abbrev pub encode : List ℕ → ℕ → Val → List ℕ
+encode t k v = recordBytes (headOf k v) ++ encodeBelow t k v
 
 -- what stands at the front of a byte list: a reading and the bytes over, or none that fits
 pub data Decoded : Type 0 where
@@ -72,22 +115,37 @@ abbrev pub decodeItems : (List ℕ → Decoded) → ℕ → List ℕ → Decoded
 decodeItems D zero bs = fits none bs
 decodeItems D (suc n) bs = chain more (nonEmpty (D bs)) (decodeItems D n)
 
--- what f makes of the first record's kind and argument and the bytes after it; unfit where less than a record is left
-abbrev pub atRecord : (ℕ → ℕ → List ℕ → Decoded) → List ℕ → Decoded
-atRecord f [] = unfit
-atRecord f (x ∷ []) = unfit
-atRecord f (x ∷ (y ∷ bs)) = f x y bs
+-- a written length: a byte, and the true one
+abbrev pub isLength : ℕ → ℕ → Bool
+isLength n size = eqb n size && leb n 255
 
--- the reading of r at the front of the bytes, and the bytes over
-abbrev pub decode : Exp → List ℕ → Decoded
-decode nothing bs = unfit
-decode empty bs = atRecord (λ x y rest. pick (eqb x 0 && eqb y 0) (fits void rest) unfit) bs
-decode (letter b) bs = atRecord (λ x y rest. pick (eqb x 1 && holds b y) (fits (byte y) rest) unfit) bs
-decode (or r1 r2) bs =
-    atRecord
+-- the answer where its reading spells as many bytes as are written
+abbrev pub held : ℕ → Decoded → Decoded
+held n (fits v rest) = pick (isLength n (length (flat v))) (fits v rest) unfit
+held n unfit = unfit
+
+-- what f makes of the first record's kind and argument and the bytes after it, where the record has the number k and the length that is spelled;
+-- unfit where less than a record is left
+abbrev pub atRecord : ℕ → (ℕ → ℕ → List ℕ → Decoded) → List ℕ → Decoded
+atRecord k f [] = unfit
+atRecord k f (x ∷ []) = unfit
+atRecord k f (x ∷ (y ∷ [])) = unfit
+atRecord k f (x ∷ (y ∷ (n ∷ []))) = unfit
+atRecord k f (x ∷ (y ∷ (n ∷ (i ∷ bs)))) = held n (pick (eqb i k) (f x y bs) unfit)
+
+-- the reading of r at the front of the bytes, and the bytes over; r is the expression of record k of the table
+abbrev pub decode : List ℕ → ℕ → Exp → List ℕ → Decoded
+decode t k nothing bs = unfit
+decode t k empty bs = atRecord k (λ x y rest. pick (eqb x 0 && eqb y 0) (fits void rest) unfit) bs
+decode t k (letter b) bs = atRecord k (λ x y rest. pick (eqb x 1 && holds b y) (fits (byte y) rest) unfit) bs
+decode t k (or r1 r2) bs =
+    atRecord k
     (λ x y rest.
-    pick (eqb x 2 && eqb y 0) (under left (decode r1 rest)) (pick (eqb x 3 && eqb y 0) (under right (decode r2 rest)) unfit))
+    pick (eqb x 2 && eqb y 0) (under left (decode t (aAt t k) r1 rest))
+    (pick (eqb x 3 && eqb y 0) (under right (decode t (bAt t k) r2 rest)) unfit))
     bs
-decode (seq r1 r2) bs =
-    atRecord (λ x y rest. pick (eqb x 4 && eqb y 0) (chain pair (decode r1 rest) (λ over. decode r2 over)) unfit) bs
-decode (star r) bs = atRecord (λ x y rest. pick (eqb x 5) (decodeItems (λ over. decode r over) y rest) unfit) bs
+decode t k (seq r1 r2) bs =
+    atRecord k
+    (λ x y rest. pick (eqb x 4 && eqb y 0) (chain pair (decode t (aAt t k) r1 rest) (λ over. decode t (bAt t k) r2 over)) unfit)
+    bs
+decode t k (star r) bs = atRecord k (λ x y rest. pick (eqb x 5) (decodeItems (λ over. decode t (aAt t k) r over) y rest) unfit) bs

@@ -5,5 +5,4 @@ pub mod Fitting
 pub mod Calls
 -- What only the functions inside, here and in the crates above, are given and leave.
 pub mod Walks
-pub mod Fitted
 pub mod Writing

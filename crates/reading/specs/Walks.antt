@@ -18,7 +18,7 @@ use Rattle.reading.specs.declared.Shape.the-variants.{Leaf, Left, Right,
 use Rattle.reading.specs.declared.Whole.{Whole}
 use Rattle.reading.specs.declared.Whole.the-variants.{Spells, Misfit}
 use Rattle.reading.specs.Fitting.{readingOf}
-use Rattle.reading.specs.Codec.{Decoded, fits, unfit, under, chain, decodeItems, decode}
+use Rattle.reading.specs.Codec.{recordSize, recordAt, isLength, Decoded, fits, unfit, under, chain, decodeItems, decode}
 
 abbrev pub pickShape : Bool → Shape → Shape → Shape
 pickShape true x y = x
@@ -40,10 +40,15 @@ shapeOf (suc (suc (suc (suc (suc zero))))) a b x y = pickShape (eqb x 5) (Many a
 shapeOf (suc (suc (suc (suc (suc (suc zero)))))) a b x y = letterShape (outside a b) x y
 shapeOf (suc (suc (suc (suc (suc (suc (suc n))))))) a b x y = Wrong
 
+-- the shape of a reading's record of number i by table record k: none where the numbers differ
+abbrev pub shapeBy : List ℕ → ℕ → ℕ → ℕ → ℕ → Shape
+shapeBy t k x y i = pickShape (eqb i k) (shapeOf (kindAt t k) (aAt t k) (bAt t k) x y) Wrong
+
 -- the shape of the record at a place, by table record k
 unfoldable pub shapeAt : List ℕ → ℕ → List ℕ → ℕ → Shape
 shapeAt t k bs at =
-    pickShape (leb (at + 2) (length bs)) (shapeOf (kindAt t k) (aAt t k) (bAt t k) (getD bs at 0) (getD bs (at + 1) 0)) Wrong
+    pickShape (leb (at + recordSize) (length bs))
+    (shapeBy t k (recordAt bs at .kind) (recordAt bs at .argument) (recordAt bs at .number)) Wrong
 
 -- a reading of one record that spells n bytes, by its argument
 abbrev pub leaf : ℕ → ℕ → List ℕ → Decoded
@@ -51,13 +56,14 @@ leaf zero y rest = fits void rest
 leaf (suc zero) y rest = fits (byte y) rest
 leaf (suc (suc n)) y rest = unfit
 
--- what decoding finds at a place by the shape of its record
+-- what decoding finds at a place by the shape of its record, whatever length is written there
 abbrev pub decodeBy : List ℕ → List ℕ → ℕ → Shape → Decoded
-decodeBy t bs at (Leaf n) = leaf n (getD bs (at + 1) 0) (drop (at + 2) bs)
-decodeBy t bs at (Left c) = under left (decode (expOf t c) (drop (at + 2) bs))
-decodeBy t bs at (Right c) = under right (decode (expOf t c) (drop (at + 2) bs))
-decodeBy t bs at (Both c d) = chain pair (decode (expOf t c) (drop (at + 2) bs)) (λ over. decode (expOf t d) over)
-decodeBy t bs at (Many c n) = decodeItems (λ over. decode (expOf t c) over) n (drop (at + 2) bs)
+decodeBy t bs at (Leaf n) = leaf n (recordAt bs at .argument) (drop (at + recordSize) bs)
+decodeBy t bs at (Left c) = under left (decode t c (expOf t c) (drop (at + recordSize) bs))
+decodeBy t bs at (Right c) = under right (decode t c (expOf t c) (drop (at + recordSize) bs))
+decodeBy t bs at (Both c d) =
+    chain pair (decode t c (expOf t c) (drop (at + recordSize) bs)) (λ over. decode t d (expOf t d) over)
+decodeBy t bs at (Many c n) = decodeItems (λ over. decode t c (expOf t c) over) n (drop (at + recordSize) bs)
 decodeBy t bs at Wrong = unfit
 
 -- the part that decoding found, in a reading of n bytes
@@ -67,11 +73,11 @@ spanOf n unfit = Unfit
 
 -- the part that starts at a place, by record k
 unfoldable pub fitAt : List ℕ → ℕ → List ℕ → ℕ → Fit
-fitAt t k bs at = spanOf (length bs) (decode (expOf t k) (drop at bs))
+fitAt t k bs at = spanOf (length bs) (decode t k (expOf t k) (drop at bs))
 
 -- n iterations that start at a place, each by record c
 unfoldable pub fitItems : List ℕ → ℕ → ℕ → List ℕ → ℕ → Fit
-fitItems t c n bs at = spanOf (length bs) (decodeItems (λ over. decode (expOf t c) over) n (drop at bs))
+fitItems t c n bs at = spanOf (length bs) (decodeItems (λ over. decode t c (expOf t c) over) n (drop at bs))
 
 -- a part that spells so many bytes more
 abbrev pub longer : ℕ → Fit → Fit
@@ -92,19 +98,27 @@ abbrev pub spellingPart : Fit → Fit
 spellingPart (Found s) = unlessEmpty (s .size) (Found s)
 spellingPart Unfit = Unfit
 
--- whether a part fits
-abbrev pub isFound : Fit → Bool
-isFound (Found s) = true
-isFound Unfit = false
-
 -- the part at a place by the shape of its first record
 abbrev pub fitBy : List ℕ → List ℕ → ℕ → Shape → Fit
-fitBy t bs at (Leaf n) = Found (record { next = record { at = at + 2 }; size = n })
-fitBy t bs at (Left c) = fitAt t c bs (at + 2)
-fitBy t bs at (Right c) = fitAt t c bs (at + 2)
-fitBy t bs at (Both c d) = thenFit (fitAt t c bs (at + 2)) (λ next. fitAt t d bs next)
-fitBy t bs at (Many c n) = fitItems t c n bs (at + 2)
+fitBy t bs at (Leaf n) = Found (record { next = record { at = at + recordSize }; size = n })
+fitBy t bs at (Left c) = fitAt t c bs (at + recordSize)
+fitBy t bs at (Right c) = fitAt t c bs (at + recordSize)
+fitBy t bs at (Both c d) = thenFit (fitAt t c bs (at + recordSize)) (λ next. fitAt t d bs next)
+fitBy t bs at (Many c n) = fitItems t c n bs (at + recordSize)
 fitBy t bs at Wrong = Unfit
+
+-- the part at a place with the length that it spells, "the sum over its children", each of which fits; whatever length is written there
+unfoldable pub lengthAt : List ℕ → ℕ → List ℕ → ℕ → Fit
+lengthAt t k bs at = fitBy t bs at (shapeAt t k bs at)
+
+abbrev pub fitIf : Bool → Fit → Fit
+fitIf true f = f
+fitIf false f = Unfit
+
+-- a part that spells as many bytes as are written
+abbrev pub heldPart : ℕ → Fit → Fit
+heldPart n (Found s) = fitIf (isLength n (s .size)) (Found s)
+heldPart n Unfit = Unfit
 
 -- how many bytes a whole reading spells
 abbrev pub sized : Parsed → Whole

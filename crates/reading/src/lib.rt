@@ -2,15 +2,15 @@
 
 ghost use Prim.Native.Nat.{_+_, _*_, _≤_, _<_};
 ghost use mathlib.Core.Path.{_≡_};
-ghost use mathlib.Core.Bool.{true};
 ghost use mathlib.Core.List.{_++_};
 ghost use lib.ListN.{length, drop};
+ghost use lib.Seq.{sets};
 ghost use Rattle.table.specs.Records.{count};
 ghost use Rattle.table.specs.Faults.{Passes};
 ghost use Rattle.table.specs.Answers.{says, gives};
-ghost use Rattle.reading.specs.declared.Fit.the-variants.{Found};
+ghost use Rattle.reading.specs.Codec.{recordSize, recordWith, recordAt};
 ghost use Rattle.reading.specs.Fitting.{spelled, stepped};
-ghost use Rattle.reading.specs.Walks.{shapeOf, shapeAt, fitAt, fitItems, isFound, wholeAt};
+ghost use Rattle.reading.specs.Walks.{shapeOf, shapeAt, lengthAt, fitAt, fitItems, wholeAt};
 ghost use Rattle.reading.specs.Calls.{ifStart, spellSays, spellLeaves};
 use table::Answer;
 use table::Refusal;
@@ -50,6 +50,9 @@ pub enum Whole {
 }
 
 impl Place {
+    // The bytes of a record.
+    pub const RECORD: usize = 4;
+
     // The place one record on, or the same place at the end or with less than a record left.
     pub fn step(self, reading: &[u8]) -> Place
         ensures { λ r. ⌜ r .at ≡ stepped (now (reading .entry)) (self .at) ⌝ }
@@ -57,12 +60,59 @@ impl Place {
         let at = self.at;
         let n = reading.len();
         if at < n {
-            if 2 <= n - at {
-                return Place { at: at + 2 };
+            if Place::RECORD <= n - at {
+                return Place {
+                    at: at + Place::RECORD,
+                };
             }
         }
         Place { at }
     }
+}
+
+// The kind of the record at a place.
+pub fn record_kind(reading: &[u8], at: usize) -> u8
+    requires { ⌜ at + recordSize ≤ length (now reading) ⌝ }
+    ensures { λ r. ⌜ r ≡ (recordAt (now (reading .entry)) at) .kind ⌝ }
+{
+    reading[at]
+}
+
+// The argument of the record at a place.
+pub fn record_argument(reading: &[u8], at: usize) -> u8
+    requires { ⌜ at + recordSize ≤ length (now reading) ⌝ }
+    ensures { λ r. ⌜ r ≡ (recordAt (now (reading .entry)) at) .argument ⌝ }
+{
+    reading[at + 1]
+}
+
+// The length that is written in the record at a place.
+pub fn record_length(reading: &[u8], at: usize) -> u8
+    requires { ⌜ at + recordSize ≤ length (now reading) ⌝ }
+    ensures length { λ r. ⌜ r ≡ (recordAt (now (reading .entry)) at) .size ⌝ }
+    ensures byte { λ r. ⌜ r < 256 ⌝ }
+{
+    reading[at + 2]
+}
+
+// The number of the table's record that is written in the record at a place.
+pub fn record_number(reading: &[u8], at: usize) -> usize
+    requires { ⌜ at + recordSize ≤ length (now reading) ⌝ }
+    ensures { λ r. ⌜ r ≡ (recordAt (now (reading .entry)) at) .number ⌝ }
+{
+    reading[at + 3] as usize
+}
+
+// Stores a record at a position of a buffer.
+pub fn store_record(out: &mut [u8], at: usize, kind: u8, argument: u8, size: usize, number: usize)
+    requires room { ⌜ at + recordSize ≤ length (now out) ⌝ }
+    requires bytes { ⌜ (size < 256) × (number < 256) ⌝ }
+    ensures { λ _. ⌜ now (out .exit) ≡ sets (now (out .entry)) at (recordWith kind argument size number) ⌝ }
+{
+    out[at] = kind;
+    out[at + 1] = argument;
+    out[at + 2] = size as u8;
+    out[at + 3] = number as u8;
 }
 
 // The shape of a reading's record x, y by a table record of a kind, a, b.
@@ -116,7 +166,7 @@ fn shape_of(kind: u8, a: u8, b: u8, x: u8, y: u8) -> Shape
 }
 
 // The shape of the record at a place, by table record k.
-pub fn look(table: &[u8], k: usize, reading: &[u8], place: Place) -> Shape
+fn look(table: &[u8], k: usize, reading: &[u8], place: Place) -> Shape
     requires { ⌜ 4 * k + 3 < length (now table) ⌝ }
     ensures { λ r. ⌜ r ≡ shapeAt (now (table .entry)) k (now (reading .entry)) (place .at) ⌝ }
 {
@@ -125,23 +175,48 @@ pub fn look(table: &[u8], k: usize, reading: &[u8], place: Place) -> Shape
     if n <= at {
         return Shape::Wrong;
     }
-    if n - at < 2 {
+    if n - at < Place::RECORD {
+        return Shape::Wrong;
+    }
+    let number = record_number(reading, at);
+    if number != k {
         return Shape::Wrong;
     }
     let kind = table::kind_at(table, k);
     let a = table::a_at(table, k);
     let b = table::b_at(table, k);
-    let x = reading[at];
-    let y = reading[at + 1];
+    let x = record_kind(reading, at);
+    let y = record_argument(reading, at);
     shape_of(kind, a, b, x, y)
 }
 
-// The part that starts at a place, by record k: an element, whose iterations are elements again of a lower record.
+// The part that starts at a place, by record k: an element, whose iterations are elements again of a lower record. The length that is written for it
+// is the one that it spells.
 fn fit_element(table: &[u8], k: usize, reading: &[u8], place: Place) -> Fit
     requires passes { ⌜ Passes (now table) ⌝ }
     requires inside { ⌜ k < count (now table) ⌝ }
     requires placed { ⌜ (place .at) ≤ length (now reading) ⌝ }
     ensures { λ r. ⌜ r ≡ fitAt (now (table .entry)) k (now (reading .entry)) (place .at) ⌝ }
+{
+    match part_length(table, k, reading, place) {
+        Fit::Found(part) => {
+            let written = record_length(reading, place.at) as usize;
+            if written == part.size {
+                return Fit::Found(part);
+            }
+            Fit::Unfit
+        }
+        Fit::Unfit => Fit::Unfit,
+    }
+}
+
+// The part that starts at a place, by record k, with the length that it spells, the sum over its children: each of them is fitted, which holds the
+// length that is written for it against its own sum.
+pub fn part_length(table: &[u8], k: usize, reading: &[u8], place: Place) -> Fit
+    requires passes { ⌜ Passes (now table) ⌝ }
+    requires inside { ⌜ k < count (now table) ⌝ }
+    requires placed { ⌜ (place .at) ≤ length (now reading) ⌝ }
+    ensures { λ r. ⌜ r ≡ lengthAt (now (table .entry)) k (now (reading .entry)) (place .at) ⌝ }
 {
     let next = place.step(reading);
     match look(table, k, reading, place) {
@@ -196,46 +271,6 @@ fn fit_iterations(table: &[u8], c: usize, times: usize, reading: &[u8], place: P
     Fit::Found(Span { next: at, size })
 }
 
-// The part that starts at a place where one fits, by record k: the length it spells is the sum over its children.
-pub fn part_length(table: &[u8], k: usize, reading: &[u8], place: Place) -> Span
-    requires passes { ⌜ Passes (now table) ⌝ }
-    requires inside { ⌜ k < count (now table) ⌝ }
-    requires placed { ⌜ (place .at) ≤ length (now reading) ⌝ }
-    requires fitting { ⌜ isFound (fitAt (now table) k (now reading) (place .at)) ≡ true ⌝ }
-    ensures { λ r. ⌜ fitAt (now (table .entry)) k (now (reading .entry)) (place .at) ≡ Found r ⌝ }
-{
-    let next = place.step(reading);
-    match look(table, k, reading, place) {
-        Shape::Leaf(size) => Span { next, size },
-        Shape::Left(c) => part_length(table, c, reading, next),
-        Shape::Right(c) => part_length(table, c, reading, next),
-        Shape::Both(c, d) => {
-            let first = part_length(table, c, reading, next);
-            let after = first.next;
-            let second = part_length(table, d, reading, after);
-            let end = second.next;
-            Span {
-                next: end,
-                size: first.size + second.size,
-            }
-        }
-        Shape::Many(c, n) => {
-            let mut left = n;
-            let mut at = next;
-            let mut size: usize = 0;
-            while 0 < left {
-                let part = part_length(table, c, reading, at);
-                size += part.size;
-                at = part.next;
-                left -= 1;
-            }
-            Span { next: at, size }
-        }
-        // A part that fits has no such record.
-        Shape::Wrong => Span { next, size: 0 },
-    }
-}
-
 // How many bytes a byte sequence spells as a reading of record k, if it is one with no byte over.
 pub fn fit_whole(table: &[u8], k: usize, reading: &[u8]) -> Whole
     requires passes { ⌜ Passes (now table) ⌝ }
@@ -280,14 +315,14 @@ pub fn spell_into(reading: &[u8], out: &mut [u8]) -> usize
     let n = reading.len();
     let mut at = 0;
     let mut size = 0;
-    while 2 <= n - at {
-        let kind = reading[at];
-        let argument = reading[at + 1];
+    while Place::RECORD <= n - at {
+        let kind = record_kind(reading, at);
+        let argument = record_argument(reading, at);
         if kind == 1 {
             out[size] = argument;
             size += 1;
         }
-        at += 2;
+        at += Place::RECORD;
     }
     size
 }
@@ -303,9 +338,6 @@ pub fn spell(table: &[u8], start: usize, reading: &[u8], out: &mut [u8]) -> Answ
     }
     match fit_whole(table, start, reading) {
         Whole::Spells(size) => {
-            if 255 < size {
-                return Answer::Refused(Refusal::Long(0));
-            }
             if out.len() < size {
                 return Answer::Refused(Refusal::Buffer(size));
             }

@@ -9,7 +9,7 @@ use borrow.Author.Tests.{ltb-false}
 use lib.Dec.{ltb}
 use lib.ListN.{length, take, drop, length-append}
 use lib.Seq.{take-at}
-use Rattle.regex.specs.Values.{Reads}
+use Rattle.regex.specs.Values.{flat, Reads}
 use Rattle.regex.specs.Decision.{Parsed, found, parse}
 use Rattle.regex.proofs.Flats.{posix-flat, posix-reads}
 use Rattle.regex.proofs.Found.{parse-found}
@@ -19,7 +19,7 @@ use Rattle.table.specs.declared.Answer.the-variants.{Done, Refused}
 use Rattle.table.specs.Answers.{Said, gives, refuses, refusal, says}
 use Rattle.table.specs.Checked.{checked}
 use Rattle.table.specs.Expression.{expOf}
-use Rattle.reading.specs.Codec.{encode}
+use Rattle.reading.specs.Codec.{recordSize, encode}
 use Rattle.reading.specs.Fitting.{readingOf}
 use Rattle.reading.proofs.Fitting.{fits-found, reading-complete}
 use Rattle.reading.proofs.Lengths.{encode-length}
@@ -72,7 +72,7 @@ pub tokens-given :
     × (tokensLeaves t k bs list
     ≡ tokenBytes (tokensFrom t k (x .fitting .value) 0) ++ drop (length (tokenBytes (tokensFrom t k (x .fitting .value) 0))) list)
 tokens-given {t} {k} {bs} x list size =
-    tokens-writes t k bs list (x .passes) (x .inside) (x .fitting) (x .short) (omega (arith, tokens-count t k (x .fitting .value) 0, x .short))
+    tokens-writes t k bs list (x .passes) (x .inside) (x .fitting) (omega (arith, tokens-count t k (x .fitting .value) 0, x .fitting .short))
 
 pub not-refused :
     {t : List ℕ} {k : ℕ} {bs : List ℕ} (x : LineReading t k bs) (list : List ℕ) {r : Answer} {why : Refusal} → length list ≡ tokenLength
@@ -101,7 +101,7 @@ tokenized {t} {k} {bs} x list final {r} n size e f g =
     record {
       tokens = xs;
       counted = l;
-      few = omega (arith, tokens-count t k (x .fitting .value) 0, x .short);
+      few = omega (arith, tokens-count t k (x .fitting .value) 0, x .fitting .short);
       front =
           ap (take (3 * n)) (g ∙ tokens-given x list size .1)
           ∙ take-at (tokenBytes xs) (drop (length (tokenBytes xs)) list) (3 * n) (omega (arith, bytes-count xs));
@@ -133,37 +133,43 @@ module _ {t : List ℕ} {k : ℕ} {s reading final : List ℕ} {n : ℕ} (x : Po
   reads : Reads (expOf t k) (x .value)
   reads = posix-reads (x .posix)
 
-  written-length : length (encode (x .value)) ≡ 2 * n
-  written-length = encode-length reads ∙ ap (λ (m : ℕ). 2 * m) (sym (x .counted))
+  written-length : length (encode t k (x .value)) ≡ recordSize * n
+  written-length = encode-length t k reads ∙ ap (λ (m : ℕ). recordSize * m) (sym (x .counted))
 
-  pub reading-room : 2 * n ≤ length final
-  reading-room = omega (arith, written-length, ap length (x .written) ∙ length-append (encode (x .value)) (drop (length (encode (x .value))) reading))
+  pub reading-room : recordSize * n ≤ length final
+  reading-room = omega (arith, written-length, ap length (x .written) ∙ length-append (encode t k (x .value)) (drop (length (encode t k (x .value))) reading))
 
-  front-reading : take (2 * n) final ≡ encode (x .value)
-  front-reading = ap (take (2 * n)) (x .written) ∙ take-at (encode (x .value)) (drop (length (encode (x .value))) reading) (2 * n) written-length
+  front-reading : take (recordSize * n) final ≡ encode t k (x .value)
+  front-reading = ap (take (recordSize * n)) (x .written) ∙ take-at (encode t k (x .value)) (drop (length (encode t k (x .value))) reading) (recordSize * n) written-length
 
-  -- what stands in front of the buffer is a reading of the line
-  pub line-reading : (work room : ℕ) {r : Answer} → says r ≡ readSays t k s work room → r ≡ Done n → LineReading t k (take (2 * n) final)
+  -- it spells at most 255 bytes, as the line has no more
+  short-value : (work room : ℕ) {r : Answer} → says r ≡ readSays t k s work room → r ≡ Done n → Admitted t k × (length (flat (x .value)) ≤ 255)
   unfolding readSays
-  line-reading work room e f =
+  short-value work room e f =
       let said : readSays t k s work room ≡ gives n = sym e ∙ ap says f in
       let a : Admitted t k = start-gives t k _ n said in
       let short : ltb 255 (length s) ≡ false = or-gives (ltb 255 (length s)) 7 0 _ n (sym (a .said-on _) ∙ said) .0 in
+      (a, omega (arith, ap length (posix-flat (x .posix)), ltb-false 255 (length s) short))
+
+  -- what stands in front of the buffer is a reading of the line
+  pub line-reading : (work room : ℕ) {r : Answer} → says r ≡ readSays t k s work room → r ≡ Done n → LineReading t k (take (recordSize * n) final)
+  line-reading work room e f =
+      let a : Admitted t k × (length (flat (x .value)) ≤ 255) = short-value work room e f in
       record {
-        passes = a .passes;
-        inside = a .inside;
-        fitting = record { value = x .value; reads = reads; encoded = front-reading };
-        short = omega (arith, ap length (posix-flat (x .posix)), ltb-false 255 (length s) short);
+        passes = a .0 .passes;
+        inside = a .0 .inside;
+        fitting = record { value = x .value; reads = reads; encoded = front-reading; short = a .1 };
       }
 
   pub line-read :
       (work room number : ℕ) {r : Answer} {m : ℕ} {a b : List ℕ} → work ≡ workLength → room ≡ readingLength → says r ≡ readSays t k s work room → r ≡ Done n
-      → m ≤ 32768 → Wrote a b 0 m (readingReport t k number (take (2 * n) final)) → 32768 ≤ length a → Printed a b 32768 m (lineReport t k number s)
+      → m ≤ 32768 → Wrote a b 0 m (readingReport t k number (take (recordSize * n) final)) → 32768 ≤ length a → Printed a b 32768 m (lineReport t k number s)
   unfolding lineReport
   line-read work room number p q e f l w free =
       let said : readSays t k s workLength readingLength ≡ gives n =
       ap (λ (i : ℕ). readSays t k s i readingLength) (sym p) ∙ ap (readSays t k s work) (sym q) ∙ sym e ∙ ap says f in
       let found-value : parse (expOf t k) s ≡ found (x .value) = parse-found (expOf t k) s (x .value) .1 (x .posix) in
-      let found-bytes : readingOf t k (take (2 * n) final) ≡ found (x .value) = ap (readingOf t k) front-reading ∙ reading-complete t k reads in
+      let found-bytes : readingOf t k (take (recordSize * n) final) ≡ found (x .value) =
+      ap (readingOf t k) front-reading ∙ reading-complete t k reads (short-value work room e f .1) in
       printed 32768 w l free
       (ap (λ (y : Parsed). okLine number (lineTokens t k y)) (found-bytes ∙ sym found-value) ∙ sym (ap (reported t k number s) said))

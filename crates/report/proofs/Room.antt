@@ -28,17 +28,17 @@ use Rattle.matcher.specs.Calls.{workSize, readParsed, readSays}
 use Rattle.report.specs.Report.{workLength, readingLength}
 
 -- at most 255 records, and a work area that is enough for n bytes
-few : (m n : ℕ) → m ≤ 255 → workSize m n ≤ workLength → m * max n 1 ≤ 16384
-few m n h w = go (ltb 5 n) refl
+few : (m n : ℕ) → m ≤ 255 → workSize m n ≤ workLength → m * max n 1 ≤ 8192
+few m n h w = go (ltb 32 n) refl
   where
-    go : (b : Bool) → ltb 5 n ≡ b → m * max n 1 ≤ 16384
+    go : (b : Bool) → ltb 32 n ≡ b → m * max n 1 ≤ 8192
     go false e =
-        let x : max n 1 ≤ 5 = omega (arith, ltb-false 5 n e) in
-        let y : m * max n 1 ≤ 255 * 5 = mul-le-mul h x in
+        let x : max n 1 ≤ 32 = omega (arith, ltb-false 32 n e) in
+        let y : m * max n 1 ≤ 255 * 32 = mul-le-mul h x in
         omega arith
     go true e =
-        let l : 5 < n = ltb-true 5 n e in
-        let x : m * (n + 1) * 8 ≤ m * (n + 1) * (n + 2) = mul-le-mul-left (m * (n + 1)) (omega arith) in
+        let l : 32 < n = ltb-true 32 n e in
+        let x : m * (n + 1) * 32 ≤ m * (n + 1) * (n + 2) = mul-le-mul-left (m * (n + 1)) (omega arith) in
         let y : m * n ≤ m * (n + 1) = mul-le-mul-left m (omega arith) in
         let f : max n 1 ≡ n = omega arith in
         rw f (omega arith)
@@ -52,10 +52,10 @@ never-buffer t k s =
     (λ b. go p l (few (count t) (length s) (count-bound t p .1) (ltb-false workLength (workSize (count t) (length s)) b)) (parse (expOf t k) s) refl)))
   where
     go :
-        Passes t → k < count t → count t * max (length s) 1 ≤ 16384 → (x : Parsed) → parse (expOf t k) s ≡ x
-        → NotBuffer (readParsed x readingLength)
+        Passes t → k < count t → count t * max (length s) 1 ≤ 8192 → (x : Parsed) → parse (expOf t k) s ≡ x
+        → NotBuffer (readParsed t k x readingLength)
     go p l h missing e = not-buffer 8 0 (omega arith)
     go p l h (found v) e =
         let q : Posix s (expOf t k) v = parse-sound (expOf t k) s v e in
         let r : records v ≤ count t * max (length s) 1 = rw (posix-flat q) at (records-reads t p k l (posix-reads q)) in
-        room-not-buffer readingLength (encode v) (records v) (omega (arith, encode-length (posix-reads q)))
+        room-not-buffer readingLength (encode t k v) (records v) (omega (arith, encode-length t k (posix-reads q)))

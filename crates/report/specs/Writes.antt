@@ -3,7 +3,6 @@
 use Prim.Native.Nat.{ℕ, _≤_, _<_}
 use mathlib.Core.List.{List, [], _∷_, _++_}
 use lib.ListN.{length}
-use Rattle.regex.specs.Values.{flat}
 use Rattle.table.specs.Records.{count}
 use Rattle.table.specs.Faults.{Passes}
 use Rattle.reading.specs.Fitting.{Fits, readingOf}
@@ -15,12 +14,11 @@ use Rattle.report.specs.Report.{okLine, lineTokens}
 abbrev pub lineWith : ℕ → List ℕ → ℕ → List ℕ
 lineWith number word n = lineWord ++ (decimal number ++ (word ++ (decimal n ++ (10 ∷ []))))
 
--- bytes that are a reading of at most 255 line bytes, by table t from record k
+-- bytes that are a reading by table t from record k
 pub record LineReading (t : List ℕ) (k : ℕ) (bs : List ℕ) : Type 0 where
   pub passes : Passes t
   pub inside : k < count t
   pub fitting : Fits t k bs
-  pub short : length (flat (fitting .value)) ≤ 255
 
 -- what is printed for a line whose reading stands in bytes bs
 abbrev pub readingReport : List ℕ → ℕ → ℕ → List ℕ → List ℕ

@@ -14,6 +14,7 @@ ghost use Rattle.report.specs.Writes.{lineWith, LineReading, readingRepo
 use printing::put_byte;
 use printing::put_decimal;
 use printing::put_text;
+use reading::Place;
 use table::Answer;
 use table::Refusal;
 
@@ -153,7 +154,7 @@ pub fn report_line(
 {
     match matcher::read(table, start, line, work, reading) {
         Answer::Done(records) => {
-            let end = 2 * records;
+            let end = Place::RECORD * records;
             report_reading(table, start, number, &reading[..end], tokens, out)
         }
         Answer::Refused(why) => put_refused(out, number, refusal_number(why)),

@@ -3,7 +3,7 @@
 -- Assumes nothing.
 use Prim.Native.Nat.{ℕ, _+_, _*_}
 use Rattle.table.specs.declared.Refusal.{Refusal}
-use Rattle.table.specs.declared.Refusal.the-variants.{Size, Kind, Unused, Bounds, Child, Named, Line, NoReading, Start, Work, Buffer, Unfit, Long, Differ, Text, Records, Pairs, TokenBytes}
+use Rattle.table.specs.declared.Refusal.the-variants.{Size, Kind, Unused, Bounds, Child, Named, Line, NoReading, Start, Work, Buffer, Unfit, Differ, Text, Records, Pairs, TokenBytes}
 use Rattle.table.specs.declared.Answer.{Answer}
 use Rattle.table.specs.declared.Answer.the-variants.{Done, Refused}
 
@@ -12,7 +12,7 @@ pub data Said : Type 0 where
   gives : ℕ → Said
   refuses : ℕ → ℕ → Said
 
--- the number and the detail of each refusal
+-- the number and the detail of each refusal; no call gives 13 (document 02, request 6)
 abbrev pub refusal : Refusal → Said
 refusal Size = refuses 1 0
 refusal (Kind k) = refuses 2 k
@@ -26,7 +26,6 @@ refusal Start = refuses 9 0
 refusal Work = refuses 10 0
 refusal (Buffer n) = refuses 11 n
 refusal (Unfit i) = refuses 12 i
-refusal (Long i) = refuses 13 i
 refusal Differ = refuses 14 0
 refusal Text = refuses 15 0
 refusal Records = refuses 16 0

@@ -12,8 +12,8 @@ ghost use Rattle.table.specs.Checked.{checked};
 ghost use Rattle.table.specs.Letters.{byteSet};
 ghost use Rattle.table.specs.Steps.{orSaid, ownFaultOr, isSet, Marks};
 
-// Why a call is refused: one case for each of the paper's numbers 1 to 18, in their order. A case holds the refusal's detail where it
-// has one.
+// Why a call is refused: one case for each of the paper's numbers 1 to 18 but 13, which no call gives, in their order. A case holds the
+// refusal's detail where it has one.
 pub enum Refusal {
     Size,
     Kind(usize),
@@ -27,7 +27,6 @@ pub enum Refusal {
     Work,
     Buffer(usize),
     Unfit(usize),
-    Long(usize),
     Differ,
     Text,
     Records,
@@ -98,10 +97,6 @@ pub fn numbers_of(why: Refusal) -> Numbers
         },
         Refusal::Unfit(i) => Numbers {
             number: 12,
-            detail: i,
-        },
-        Refusal::Long(i) => Numbers {
-            number: 13,
             detail: i,
         },
         Refusal::Differ => Numbers {

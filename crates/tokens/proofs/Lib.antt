@@ -1,8 +1,10 @@
 -- Tokens: the laws that upper crates cite.
-pub mod Filters
 pub mod Counts
 pub mod Text
-pub mod Writing
-pub mod Walks
 pub mod Calls
 pub mod UpTo
+-- What only these and the functions' proofs go by.
+mod Filters
+mod Writing
+mod Records
+mod Walks

@@ -5,8 +5,7 @@ use mathlib.Core.Path.{_≡_, refl, _∙_, ap}
 use mathlib.Core.Bool.{Bool, true, false}
 use mathlib.Core.List.{List, [], _∷_, _++_}
 use native.Mathlib.Omega.{arith}
-use lib.ListN.{length, drop, set, length-set}
-use lib.Seq.{sets, length-sets, sets-eq}
+use lib.ListN.{length, set, length-set}
 use Rattle.tokens.specs.Tokens.{Token, tokenBytes}
 use Rattle.reading.specs.Writing.{wrote}
 

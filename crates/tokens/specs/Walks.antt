@@ -1,55 +1,71 @@
--- What the walk over a fitting reading is given and what it leaves, at each part. It goes twice: once to count, once to write.
+-- The walk over a reading's records, in order, that lists its tokens: what it finds at each record, what it is given and what it leaves. It goes
+-- twice: once to count, once to write.
 -- Assumes nothing.
-use Prim.Native.Nat.{ℕ, _+_, _*_, _-_, _≤_}
+use Prim.Native.Nat.{ℕ, _+_, _≤_, _<_}
 use mathlib.Core.Path.{_≡_}
-use mathlib.Core.Bool.{Bool, true}
-use mathlib.Core.List.{List, [], _++_}
+use mathlib.Core.Bool.{Bool, true, false, _&&_}
+use mathlib.Core.List.{List, [], _∷_, _++_}
+use lib.Dec.{eqb, leb}
 use lib.ListN.{length}
-use Rattle.regex.specs.Values.{Val, void, byte, left, right, pair, none, more, flat}
-use Rattle.reading.specs.Fitted.{Fitted, FittedItems}
+use Rattle.table.specs.Records.{count, tagAt}
+use Rattle.reading.specs.Codec.{Record, recordsOf}
+use Rattle.reading.specs.Fitting.{spelled}
 use Rattle.reading.specs.Writing.{wrote}
 use Rattle.tokens.specs.declared.Listing.{Listing}
-use Rattle.tokens.specs.Tokens.{Token, tokensFrom, tokenBytes}
+use Rattle.tokens.specs.Tokens.{Token, consIf, positive, tokenBytes}
 
--- the tokens of a star's iterations, each by record c
-abbrev pub itemTokens : List ℕ → ℕ → Val → ℕ → List Token
-itemTokens t c void from = []
-itemTokens t c (byte b) from = []
-itemTokens t c (left v) from = []
-itemTokens t c (right v) from = []
-itemTokens t c (pair v w) from = []
-itemTokens t c none from = []
-itemTokens t c (more v w) from = tokensFrom t c v from ++ itemTokens t c w (from + length (flat v))
+-- how many bytes of the line a record of a kind is: a Byte one, the others none
+abbrev pub oneIf : Bool → ℕ
+oneIf true = 1
+oneIf false = 0
 
--- a part's place in the line and its tokens' places in the buffer: below 256, and inside a buffer of so many bytes where they are written
-pub record Room (writing : Bool) (space : ℕ) (v : Val) (offset : ℕ) (xs : List Token) (to : ℕ) : Type 0 where
-  pub near : offset + length (flat v) ≤ 255
-  pub low : to + 3 * length xs ≤ 765
-  pub room : writing ≡ true → to + 3 * length xs ≤ space
+abbrev pub width : ℕ → ℕ
+width kind = oneIf (eqb kind 1)
 
--- a part by record k, and n iterations by record c
-pub record Part (t : List ℕ) (k : ℕ) (bs : List ℕ) (at offset to : ℕ) (writing : Bool) (space : ℕ) : Type 0 where
-  pub fitted : Fitted t k bs at
-  pub bounds : Room writing space (fitted .value) offset (tokensFrom t k (fitted .value) offset) to
+-- a part by its tag, its length and its offset in the line is listed: it is tagged, it has a byte, and the token before it has ended
+abbrev pub isListed : ℕ → ℕ → ℕ → ℕ → Bool
+isListed tag size at end = positive tag && (positive size && leb end at)
 
-pub record Parts (t : List ℕ) (c n : ℕ) (bs : List ℕ) (at offset to : ℕ) (writing : Bool) (space : ℕ) : Type 0 where
-  pub fitted : FittedItems t c n bs at
-  pub bounds : Room writing space (fitted .value) offset (itemTokens t c (fitted .value) offset) to
+-- the token of a record whose part starts at an offset, or none
+abbrev pub tokenAt : List ℕ → Record → ℕ → ℕ → List Token
+tokenAt t r at end =
+    consIf (isListed (tagAt t (r .number)) (r .size) at end) (record { tag = tagAt t (r .number); offset = at; size = r .size }) []
 
--- a value is walked over: where it ends, how many bytes it spells, where the next token goes, and what the buffer holds
-pub record Listed (bs : List ℕ) (v : Val) (rest : List ℕ) (xs : List Token) (to : ℕ) (writing : Bool) (old new : List ℕ) (r : Listing) :
-    Type 0
-  where
-    pub ends : r .next .at ≡ length bs - length rest
-    pub spells : r .size ≡ length (flat v)
-    pub moved : r .at ≡ to + 3 * length xs
-    pub holds : new ≡ wrote writing old to (tokenBytes xs)
+-- where the last token ends then
+abbrev pub endAfter : List Token → ℕ → ℕ
+endAfter [] end = end
+endAfter (x ∷ xs) end = x .offset + x .size
 
--- the same of whatever fits at the place, by record k and by iterations of record c
-abbrev pub ListsPart : List ℕ → ℕ → List ℕ → ℕ → ℕ → ℕ → Bool → List ℕ → List ℕ → Listing → Type 0
-ListsPart t k bs at offset to writing old new r =
-    (x : Fitted t k bs at) → Listed bs (x .value) (x .rest) (tokensFrom t k (x .value) offset) to writing old new r
+-- the tokens of records, from an offset of the line on and after a token that ends at one
+abbrev pub listRecords : List ℕ → List Record → ℕ → ℕ → List Token
+listRecords t [] at end = []
+listRecords t (r ∷ rs) at end =
+    tokenAt t r at end ++ listRecords t rs (at + width (r .kind)) (endAfter (tokenAt t r at end) end)
 
-abbrev pub ListsItems : List ℕ → ℕ → ℕ → List ℕ → ℕ → ℕ → ℕ → Bool → List ℕ → List ℕ → Listing → Type 0
-ListsItems t c n bs at offset to writing old new r =
-    (x : FittedItems t c n bs at) → Listed bs (x .value) (x .rest) (itemTokens t c (x .value) offset) to writing old new r
+abbrev pub listReading : List ℕ → List ℕ → List Token
+listReading t bs = listRecords t (recordsOf bs) 0 0
+
+-- every record has the number of a record of the table
+pub data Numbered (t : List ℕ) : List Record → Type 0 where
+  numbered-none : Numbered t []
+  numbered-more : {r : Record} {rs : List Record} → r .number < count t → Numbered t rs → Numbered t (r ∷ rs)
+
+-- what the walk is given: offsets and lengths below 256, and room for the tokens where they are written
+pub record Listable (t bs : List ℕ) (writing : Bool) (space : ℕ) : Type 0 where
+  pub numbers : Numbered t (recordsOf bs)
+  pub short : length (spelled bs) ≤ 255
+  pub few : length (listReading t bs) ≤ 255
+  pub room : writing ≡ true → length (tokenBytes (listReading t bs)) ≤ space
+
+-- what it is given before one record, and what it leaves behind it
+pub record Passable (t : List ℕ) (r : Record) (writing : Bool) (space : ℕ) (x : Listing) : Type 0 where
+  pub number : r .number < count t
+  pub near : x .offset ≤ 255
+  pub low : x .to ≤ 765
+  pub room : writing ≡ true → x .to + length (tokenBytes (tokenAt t r (x .offset) (x .end))) ≤ space
+
+pub record Passed (t : List ℕ) (r : Record) (writing : Bool) (old new : List ℕ) (x y : Listing) : Type 0 where
+  pub moved : y .offset ≡ x .offset + width (r .kind)
+  pub ends : y .end ≡ endAfter (tokenAt t r (x .offset) (x .end)) (x .end)
+  pub behind : y .to ≡ x .to + length (tokenBytes (tokenAt t r (x .offset) (x .end)))
+  pub holds : new ≡ wrote writing old (x .to) (tokenBytes (tokenAt t r (x .offset) (x .end)))

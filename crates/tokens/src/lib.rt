@@ -5,29 +5,28 @@ ghost use mathlib.Core.Path.{_≡_};
 ghost use mathlib.Core.Bool.{true};
 ghost use mathlib.Core.List.{[], _∷_};
 ghost use lib.ListN.{length};
-ghost use Rattle.table.specs.Records.{count};
-ghost use Rattle.table.specs.Faults.{Passes};
 ghost use Rattle.table.specs.Answers.{says};
-ghost use Rattle.tokens.specs.Listed.{tokensSays, tokensLeaves};
+ghost use Rattle.reading.specs.Codec.{recordSize, recordAt};
 ghost use Rattle.reading.specs.Writing.{wrote};
-ghost use Rattle.tokens.specs.Walks.{Part, Parts, ListsPart, ListsItems};
+ghost use Rattle.tokens.specs.Tokens.{tokenBytes};
+ghost use Rattle.tokens.specs.Listed.{tokensSays, tokensLeaves};
+ghost use Rattle.tokens.specs.Walks.{width, listReading, Listable, Passable, Passed};
 use reading::Place;
-use reading::Shape;
 use reading::Whole;
 use table::Answer;
 use table::Refusal;
 
-// A part that was walked over: where it ends, how many bytes it spells, and the index in the buffer behind its tokens.
+// The walk so far: the offset in the line, the offset where the last token ends, and the index in the buffer behind the tokens.
 pub struct Listing {
-    pub next: Place,
-    pub size: usize,
-    pub at: usize,
+    pub offset: usize,
+    pub end: usize,
+    pub to: usize,
 }
 
 // One token at an index of the buffer, stored if writing, and the index behind it.
 fn put(out: &mut [u8], at: usize, tag: u8, offset: usize, size: usize, writing: bool) -> usize
     requires bytes { ⌜ (offset < 256) × (size < 256) ⌝ }
-    requires low { ⌜ at + 3 ≤ 765 ⌝ }
+    requires low { ⌜ at ≤ 765 ⌝ }
     requires room { ⌜ (writing ≡ true → at + 3 ≤ length (now out)) ⌝ }
     ensures index { λ r. ⌜ r ≡ at + 3 ⌝ }
     ensures buffer { λ _. ⌜ now (out .exit) ≡ wrote writing (now (out .entry)) at (tag ∷ offset ∷ size ∷ []) ⌝ }
@@ -40,97 +39,78 @@ fn put(out: &mut [u8], at: usize, tag: u8, offset: usize, size: usize, writing: 
     at + 3
 }
 
-// The tokens of the part at a place, by record k, whose bytes start at an offset of the line: the part alone if the record is tagged, or
-// none if that part is empty; otherwise those of its children.
-fn list_element(
+// How many bytes of the line a record of a kind is.
+fn width_of(kind: u8) -> usize
+    ensures { λ r. ⌜ r ≡ width kind ⌝ }
+{
+    if kind == 1 {
+        return 1;
+    }
+    0
+}
+
+// The walk behind the record at a place. The record's part is listed if its table record is tagged, it has a byte, and the last token has ended.
+fn list_record(
     table: &[u8],
-    k: usize,
     reading: &[u8],
-    place: Place,
-    offset: usize,
-    out: &mut [u8],
     at: usize,
+    listing: Listing,
+    out: &mut [u8],
     writing: bool,
 ) -> Listing
-    requires passes { ⌜ Passes (now table) ⌝ }
-    requires inside { ⌜ k < count (now table) ⌝ }
-    requires placed { ⌜ (place .at) ≤ length (now reading) ⌝ }
-    requires part { ⌜ Part (now table) k (now reading) (place .at) offset at writing (length (now out)) ⌝ }
-    ensures { λ r. ⌜ ListsPart (now (table .entry)) k (now (reading .entry)) (place .at) offset at writing (now (out .entry)) (now (out .exit)) r ⌝ }
+    requires placed { ⌜ at + recordSize ≤ length (now reading) ⌝ }
+    requires given { ⌜ Passable (now table) (recordAt (now reading) at) writing (length (now out)) listing ⌝ }
+    ensures { λ r. ⌜ Passed (now (table .entry)) (recordAt (now (reading .entry)) at) writing (now (out .entry)) (now (out .exit)) listing r ⌝ }
 {
-    let tag = table::tag_at(table, k);
-    if tag != 0 {
-        let part = reading::part_length(table, k, reading, place);
-        let past = part.next;
-        let length = part.size;
-        if length == 0 {
-            return Listing {
-                next: past,
-                size: 0,
-                at,
-            };
-        }
-        let behind = put(out, at, tag, offset, length, writing);
-        return Listing {
-            next: past,
-            size: length,
-            at: behind,
-        };
+    let number = reading::record_number(reading, at);
+    let tag = table::tag_at(table, number);
+    let size = reading::record_length(reading, at) as usize;
+    let kind = reading::record_kind(reading, at);
+    let offset = listing.offset;
+    let end = listing.end;
+    let to = listing.to;
+    let next = offset + width_of(kind);
+    let unlisted = Listing {
+        offset: next,
+        end,
+        to,
+    };
+    if tag == 0 {
+        return unlisted;
     }
-    let next = place.step(reading);
-    match reading::look(table, k, reading, place) {
-        Shape::Leaf(size) => Listing { next, size, at },
-        Shape::Left(c) => list_element(table, c, reading, next, offset, out, at, writing),
-        Shape::Right(c) => list_element(table, c, reading, next, offset, out, at, writing),
-        Shape::Both(c, d) => {
-            let first = list_element(table, c, reading, next, offset, out, at, writing);
-            let after = first.next;
-            let middle = offset + first.size;
-            let to = first.at;
-            let second = list_element(table, d, reading, after, middle, out, to, writing);
-            let end = second.next;
-            let size = first.size + second.size;
-            Listing {
-                next: end,
-                size,
-                at: second.at,
-            }
-        }
-        Shape::Many(c, n) => list_iterations(table, c, n, reading, next, offset, out, at, writing),
-        Shape::Wrong => Listing { next, size: 0, at },
+    if size == 0 {
+        return unlisted;
+    }
+    if offset < end {
+        return unlisted;
+    }
+    let behind = put(out, to, tag, offset, size, writing);
+    Listing {
+        offset: next,
+        end: offset + size,
+        to: behind,
     }
 }
 
-// The tokens of so many iterations from a place on, each by record c.
-fn list_iterations(
-    table: &[u8],
-    c: usize,
-    times: usize,
-    reading: &[u8],
-    place: Place,
-    offset: usize,
-    out: &mut [u8],
-    at: usize,
-    writing: bool,
-) -> Listing
-    requires passes { ⌜ Passes (now table) ⌝ }
-    requires inside { ⌜ c < count (now table) ⌝ }
-    requires placed { ⌜ (place .at) ≤ length (now reading) ⌝ }
-    requires parts { ⌜ Parts (now table) c times (now reading) (place .at) offset at writing (length (now out)) ⌝ }
-    ensures { λ r. ⌜ ListsItems (now (table .entry)) c times (now (reading .entry)) (place .at) offset at writing (now (out .entry)) (now (out .exit)) r ⌝ }
+// Lists the tokens of a reading, record by record, and returns the index behind them.
+fn list_records(table: &[u8], reading: &[u8], out: &mut [u8], writing: bool) -> usize
+    requires { ⌜ Listable (now table) (now reading) writing (length (now out)) ⌝ }
+    ensures index { λ r. ⌜ r ≡ length (tokenBytes (listReading (now (table .entry)) (now (reading .entry)))) ⌝ }
+    ensures buffer { λ _. ⌜ now (out .exit)
+        ≡ wrote writing (now (out .entry)) 0 (tokenBytes (listReading (now (table .entry)) (now (reading .entry)))) ⌝ }
 {
-    let mut left = times;
-    let mut next = place;
-    let mut size: usize = 0;
-    let mut to = at;
-    while 0 < left {
-        let item = list_element(table, c, reading, next, offset + size, out, to, writing);
-        next = item.next;
-        size += item.size;
-        to = item.at;
-        left -= 1;
+    let n = reading.len();
+    let mut at = 0;
+    let mut listing = Listing {
+        offset: 0,
+        end: 0,
+        to: 0,
+    };
+    while Place::RECORD <= n - at {
+        listing = list_record(table, reading, at, listing, out, writing);
+        at += Place::RECORD;
     }
-    Listing { next, size, at: to }
+    listing.to
 }
 
 // Tokens: writes the tokens of a fitting reading from the start record on, 3 bytes each, and returns their count. The first walk only
@@ -143,20 +123,13 @@ pub fn tokens(table: &[u8], start: usize, reading: &[u8], out: &mut [u8]) -> Ans
     if let Answer::Refused(why) = admitted {
         return Answer::Refused(why);
     }
-    match reading::fit_whole(table, start, reading) {
-        Whole::Spells(size) => {
-            if 255 < size {
-                return Answer::Refused(Refusal::Long(0));
-            }
-            let front = Place { at: 0 };
-            let counted = list_element(table, start, reading, front, 0, out, 0, false);
-            let needed = counted.at;
-            if out.len() < needed {
-                return Answer::Refused(Refusal::Buffer(needed));
-            }
-            let listed = list_element(table, start, reading, front, 0, out, 0, true);
-            Answer::Done(listed.at / 3)
-        }
-        Whole::Misfit => Answer::Refused(Refusal::Unfit(0)),
+    if let Whole::Misfit = reading::fit_whole(table, start, reading) {
+        return Answer::Refused(Refusal::Unfit(0));
     }
+    let needed = list_records(table, reading, out, false);
+    if out.len() < needed {
+        return Answer::Refused(Refusal::Buffer(needed));
+    }
+    let listed = list_records(table, reading, out, true);
+    Answer::Done(listed / 3)
 }

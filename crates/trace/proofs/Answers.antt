@@ -40,17 +40,17 @@ pub read-writes : (t : List ℕ) (k : ℕ) (s : List ℕ) (work : ℕ) (out : Li
 unfolding readSays readLeaves
 read-writes t k s work out n e = go (parse (expOf t k) s) refl
   where
-    read : readParsed (parse (expOf t k) s) (length out) ≡ gives n
+    read : readParsed t k (parse (expOf t k) s) (length out) ≡ gives n
     read =
         or-gives (ltb work (workSize (count t) (length s))) 10 0 _ n
         (or-gives (ltb 255 (length s)) 7 0 _ n (sym (start-gives t k _ n e .said-on _) ∙ e) .1) .1
 
     go : (x : Parsed) → parse (expOf t k) s ≡ x → PosixWritten t k s out (readLeaves t k s work out) n
     go missing f =
-        let z : refuses 8 0 ≡ gives n = sym (ap (λ (y : Parsed). readParsed y (length out)) f) ∙ read in
+        let z : refuses 8 0 ≡ gives n = sym (ap (λ (y : Parsed). readParsed t k y (length out)) f) ∙ read in
         let y : _≡_ {A = ℕ} 0 1 = cc in
         absurd (omega arith)
     go (found v) f =
-        let z : ifRoom (length out) (encode v) (records v) ≡ gives n = sym (ap (λ (y : Parsed). readParsed y (length out)) f) ∙ read in
-        let y : gives (records v) ≡ gives n = or-gives (ltb (length out) (length (encode v))) 11 (length (encode v)) _ n z .1 in
+        let z : ifRoom (length out) (encode t k v) (records v) ≡ gives n = sym (ap (λ (y : Parsed). readParsed t k y (length out)) f) ∙ read in
+        let y : gives (records v) ≡ gives n = or-gives (ltb (length out) (length (encode t k v))) 11 (length (encode t k v)) _ n z .1 in
         record { value = v; posix = parse-sound (expOf t k) s v f; counted = cc; written = rw (e, f) }

@@ -28,7 +28,7 @@ use Rattle.reading.specs.Fitting.{Fits, readingOf}
 use Rattle.table.specs.Buffers.{ifRoom}
 use Rattle.reading.specs.Calls.{ifStart, ifFits, spellSays}
 use Rattle.reading.proofs.Lengths.{encode-length}
-use Rattle.reading.proofs.Fitting.{fits-found}
+use Rattle.reading.proofs.Fitting.{found-fits, fits-found}
 use Rattle.reading.proofs.Sizes.{records-reads}
 use Rattle.reading.proofs.Saying.{said-or, said-start, table-number, NotBuffer, not-buffer, start-not-buffer, room-not-buffer}
 use Rattle.tokens.specs.Tokens.{tokensFrom, tokenBytes}
@@ -51,10 +51,10 @@ short-table t e =
     omega arith
 
 refused-small : (t : List ℕ) (n d : ℕ) → RefusedFor t n d → Small (refuses n d)
-refused-small t n d (of-size p q b) = (omega arith, omega arith, omega arith)
+refused-small t n d (of-size p q b) = (omega arith, omega arith, (λ e. omega arith), omega arith)
 refused-small t n d (of-record f) =
     let x : (1 ≤ n) × (n ≤ 6) = table-number t n d (of-record f) in
-    (omega (arith, x .0), omega arith, omega (arith, f .inside, short-table t (f .size-right)))
+    (omega (arith, x .0), omega arith, (λ e. omega (arith, x .1, e)), omega (arith, f .inside, short-table t (f .size-right)))
 
 -- Check's answer
 pub small-checked : (t : List ℕ) → Small (checked t)
@@ -68,21 +68,25 @@ small-checked t = go (checked t) refl
 
 -- the answers of the calls that take a start number
 pub small-start : (t : List ℕ) (k : ℕ) (said : Said) → (Passes t → k < count t → Small said) → Small (ifStart t k said)
-small-start t k said h = said-start Small t k said (refused-small t) (omega arith, omega arith, omega arith) h
+small-start t k said h = said-start Small t k said (refused-small t) (omega arith, omega arith, (λ e. omega arith), omega arith) h
 
 small-room : (room : ℕ) (bytes : List ℕ) (n : ℕ) → length bytes < 4294967296 → n < 4294967296 → Small (ifRoom room bytes n)
-small-room room bytes n h g = small-or (ltb room (length bytes)) (refuses 11 (length bytes)) (gives n) (omega arith, omega arith, h) (λ _. g)
+small-room room bytes n h g = small-or (ltb room (length bytes)) (refuses 11 (length bytes)) (gives n) (omega arith, omega arith, (λ e. omega arith), h) (λ _. g)
+
+-- a reading that is found spells at most 255 bytes
+short-found : (t : List ℕ) (k : ℕ) (bs : List ℕ) (v : Val) → readingOf t k bs ≡ found v → length (flat v) ≤ 255
+short-found t k bs v e =
+    let f : (f : Fits t k bs) × (f .value ≡ v) = found-fits t k bs v e in rw (← f .1) (f .0 .short)
 
 -- Spell's
 pub small-spell : (t : List ℕ) (k : ℕ) (bs : List ℕ) (room : ℕ) → Small (spellSays t k bs room)
 unfolding spellSays
-small-spell t k bs room = small-start t k _ (λ p l. go (readingOf t k bs))
+small-spell t k bs room = small-start t k _ (λ p l. go (readingOf t k bs) refl)
   where
-    go : (x : Parsed) → Small (ifFits x (λ v. ifRoom room (flat v) (length (flat v))))
-    go missing = (omega arith, omega arith, omega arith)
-    go (found v) =
-        small-or (ltb 255 (length (flat v))) (refuses 13 0) _ (omega arith, omega arith, omega arith)
-        (λ e. let h : length (flat v) ≤ 255 = ltb-false 255 (length (flat v)) e in small-room room (flat v) (length (flat v)) (omega arith) (omega arith))
+    go : (x : Parsed) → readingOf t k bs ≡ x → Small (ifFits x (λ v. ifRoom room (flat v) (length (flat v))))
+    go missing e = (omega arith, omega arith, (λ e. omega arith), omega arith)
+    go (found v) e =
+        let h : length (flat v) ≤ 255 = short-found t k bs v e in small-room room (flat v) (length (flat v)) (omega arith) (omega arith)
 
 -- Compare's
 pub small-compare : (t : List ℕ) (k : ℕ) (bs cs : List ℕ) → Small (compareSays t k bs cs)
@@ -95,32 +99,29 @@ small-compare t k bs cs = small-start t k _ (λ p l. go (readingOf t k bs) (read
     number-small second = omega arith
 
     go : (x y : Parsed) → Small (compareParsed x y)
-    go missing missing = (omega arith, omega arith, omega arith)
-    go missing (found w) = (omega arith, omega arith, omega arith)
-    go (found v) missing = (omega arith, omega arith, omega arith)
+    go missing missing = (omega arith, omega arith, (λ e. omega arith), omega arith)
+    go missing (found w) = (omega arith, omega arith, (λ e. omega arith), omega arith)
+    go (found v) missing = (omega arith, omega arith, (λ e. omega arith), omega arith)
     go (found v) (found w) =
-        small-or (ltb 255 (length (flat v))) (refuses 13 0) _ (omega arith, omega arith, omega arith)
-        (λ _. small-or (ltb 255 (length (flat w))) (refuses 13 1) _ (omega arith, omega arith, omega arith)
-        (λ _. small-or (not (sameLine (flat v) (flat w))) (refuses 14 0) _ (omega arith, omega arith, omega arith) (λ _. number-small (rank v w))))
+        small-or (not (sameLine (flat v) (flat w))) (refuses 14 0) _ (omega arith, omega arith, (λ e. omega arith), omega arith) (λ _. number-small (rank v w))
 
 -- Tokens'
 pub small-tokens : (t : List ℕ) (k : ℕ) (bs : List ℕ) (room : ℕ) → Small (tokensSays t k bs room)
 unfolding tokensSays
-small-tokens t k bs room = small-start t k _ (λ p l. go (readingOf t k bs))
+small-tokens t k bs room = small-start t k _ (λ p l. go (readingOf t k bs) refl)
   where
-    go : (x : Parsed) → Small (ifFits x (λ v. ifRoom room (tokenBytes (tokensFrom t k v 0)) (length (tokensFrom t k v 0))))
-    go missing = (omega arith, omega arith, omega arith)
-    go (found v) =
-        small-or (ltb 255 (length (flat v))) (refuses 13 0) _ (omega arith, omega arith, omega arith)
-        (λ f. let h : length (flat v) ≤ 255 = ltb-false 255 (length (flat v)) f in
+    go : (x : Parsed) → readingOf t k bs ≡ x → Small (ifFits x (λ v. ifRoom room (tokenBytes (tokensFrom t k v 0)) (length (tokensFrom t k v 0))))
+    go missing e = (omega arith, omega arith, (λ e. omega arith), omega arith)
+    go (found v) e =
+        let h : length (flat v) ≤ 255 = short-found t k bs v e in
         small-room room (tokenBytes (tokensFrom t k v 0)) (length (tokensFrom t k v 0))
         (omega (arith, bytes-count (tokensFrom t k v 0), tokens-count t k v 0))
-        (omega (arith, tokens-count t k v 0)))
+        (omega (arith, tokens-count t k v 0))
 
 -- Tokens gives no 11 where the buffer has 3 bytes for each byte of the line
 roomy :
     (t : List ℕ) (k : ℕ) (bs : List ℕ) (room : ℕ)
-    → ((v : Val) → readingOf t k bs ≡ found v → length (flat v) ≤ 255 → 3 * length (flat v) ≤ room)
+    → ((v : Val) → readingOf t k bs ≡ found v → 3 * length (flat v) ≤ room)
     → NotBuffer (tokensSays t k bs room)
 unfolding tokensSays
 roomy t k bs room enough = start-not-buffer t k _ (λ p l. go (readingOf t k bs) refl)
@@ -128,16 +129,15 @@ roomy t k bs room enough = start-not-buffer t k _ (λ p l. go (readingOf t k bs)
     go : (x : Parsed) → readingOf t k bs ≡ x → NotBuffer (ifFits x (λ v. ifRoom room (tokenBytes (tokensFrom t k v 0)) (length (tokensFrom t k v 0))))
     go missing e = not-buffer 12 0 (omega arith)
     go (found v) e =
-        said-or NotBuffer (ltb 255 (length (flat v))) (refuses 13 0) _ (not-buffer 13 0 (omega arith))
-        (λ f. room-not-buffer room (tokenBytes (tokensFrom t k v 0)) (length (tokensFrom t k v 0))
-        (omega (arith, bytes-count (tokensFrom t k v 0), tokens-count t k v 0, enough v e (ltb-false 255 (length (flat v)) f))))
+        room-not-buffer room (tokenBytes (tokensFrom t k v 0)) (length (tokensFrom t k v 0))
+        (omega (arith, bytes-count (tokensFrom t k v 0), tokens-count t k v 0, enough v e))
 
 pub room-for-line : (t : List ℕ) (k : ℕ) (bs : List ℕ) (room : ℕ) (f : Fits t k bs) → 3 * length (flat (f .value)) ≤ room → NotBuffer (tokensSays t k bs room)
 room-for-line t k bs room f h =
-    roomy t k bs room (λ v e short. let g : found v ≡ found (f .value) = sym e ∙ fits-found f in let n : v ≡ f .value = cc in rw n h)
+    roomy t k bs room (λ v e. let g : found v ≡ found (f .value) = sym e ∙ fits-found f in let n : v ≡ f .value = cc in rw n h)
 
 pub room-for-all : (t : List ℕ) (k : ℕ) (bs : List ℕ) (room : ℕ) → 765 ≤ room → NotBuffer (tokensSays t k bs room)
-room-for-all t k bs room h = roomy t k bs room (λ v e short. omega arith)
+room-for-all t k bs room h = roomy t k bs room (λ v e. omega (arith, short-found t k bs v e))
 
 -- a reading that spells at most 255 bytes has at most 255 * 255 records
 few-records : (t : List ℕ) (k : ℕ) (v : Val) → Passes t → k < count t → Reads (expOf t k) v → length (flat v) ≤ 255 → records v ≤ 65025
@@ -152,23 +152,23 @@ pub small-read : (t : List ℕ) (k : ℕ) (s : List ℕ) (work room : ℕ) → S
 unfolding readSays
 small-read t k s work room =
     small-start t k _
-    (λ p l. small-or (ltb 255 (length s)) (refuses 7 0) _ (omega arith, omega arith, omega arith)
-    (λ f. small-or (ltb work (workSize (count t) (length s))) (refuses 10 0) _ (omega arith, omega arith, omega arith)
+    (λ p l. small-or (ltb 255 (length s)) (refuses 7 0) _ (omega arith, omega arith, (λ e. omega arith), omega arith)
+    (λ f. small-or (ltb work (workSize (count t) (length s))) (refuses 10 0) _ (omega arith, omega arith, (λ e. omega arith), omega arith)
     (λ _. go p l (ltb-false 255 (length s) f) (parse (expOf t k) s) refl)))
   where
-    go : Passes t → k < count t → length s ≤ 255 → (x : Parsed) → parse (expOf t k) s ≡ x → Small (readParsed x room)
-    go p l h missing e = (omega arith, omega arith, omega arith)
+    go : Passes t → k < count t → length s ≤ 255 → (x : Parsed) → parse (expOf t k) s ≡ x → Small (readParsed t k x room)
+    go p l h missing e = (omega arith, omega arith, (λ e. omega arith), omega arith)
     go p l h (found v) e =
         let q : Posix s (expOf t k) v = parse-sound (expOf t k) s v e in
         let n : length (flat v) ≤ 255 = rw (posix-flat q) h in
         let r : records v ≤ 65025 = few-records t k v p l (posix-reads q) n in
-        small-room room (encode v) (records v) (omega (arith, encode-length (posix-reads q))) (omega arith)
+        small-room room (encode t k v) (records v) (omega (arith, encode-length t k (posix-reads q))) (omega arith)
 
 -- and that of the call that turns notation into a table
 pub small-compile : (s : List ℕ) (room : ℕ) → Small (compileSays s room)
 small-compile s room =
-    compile-said Small s room (omega arith, omega arith, omega arith) (omega arith, omega arith, omega arith)
-    (λ n few short. (omega arith, omega arith, omega arith))
+    compile-said Small s room (omega arith, omega arith, (λ e. omega arith), omega arith) (omega arith, omega arith, (λ e. omega arith), omega arith)
+    (λ n few short. (omega arith, omega arith, (λ e. omega arith), omega arith))
     (λ n few enough. omega arith)
 
 -- an answer that is one of these

@@ -59,7 +59,7 @@ module _ {said : Said} {r : ℕ} (e : r ≡ number said) (small : Small said) wh
           only = b .only;
           too-short = λ d. (short-numbered b d, λ x. e ∙ ap number (b .too-short d .1 x));
           records = b .records;
-          two-bytes-each = b .two-bytes-each;
+          whole-records = b .whole-records;
           written = λ l. (e ∙ ap number (b .written l .0), b .written l .1);
         }
 
@@ -67,6 +67,6 @@ module _ {said : Said} {r : ℕ} (e : r ≡ number said) (small : Small said) wh
     pub read-numbered : NoneOutranks (λ x. said ≡ x) t k s out final → NoneOutranks (λ x. r ≡ number x) t k s out final
     read-numbered n =
         record {
-          none = through (told (refuses 8 0) (omega arith, omega arith, omega arith)) (n .none);
+          none = through (told (refuses 8 0) (omega arith, omega arith, (λ e. omega arith), omega arith)) (n .none);
           otherwise = λ m. best-numbered (n .otherwise (λ f. m (e ∙ ap number f)));
         }

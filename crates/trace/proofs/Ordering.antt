@@ -27,7 +27,8 @@ refusal-encodable why h =
 -- 17 and 18 without a detail are encodable
 no-detail : (n d : ℕ) → ((n ≡ 17) ⊎ (n ≡ 18)) × (d ≡ 0) → Encodable (refuses n d)
 no-detail n d h =
-    ⊎-elim (λ (e : n ≡ 17). (omega arith, omega arith, omega (arith, h .1))) (λ (e : n ≡ 18). (omega arith, omega arith, omega (arith, h .1))) (h .0)
+    ⊎-elim (λ (e : n ≡ 17). (omega arith, omega arith, (λ f. omega (arith, f)), omega (arith, h .1)))
+    (λ (e : n ≡ 18). (omega arith, omega arith, (λ f. omega (arith, f)), omega (arith, h .1))) (h .0)
 
 pub order-encodable : (ts : List ℕ) (ps : List Pair) → Encodable (orderSays ts ps)
 order-encodable ts ps = go (orderSays ts ps) refl

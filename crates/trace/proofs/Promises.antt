@@ -5,13 +5,13 @@
 -- The clause rivals of matcher::read and the clause precedence of ranking::compare say demand 3 of the answer and the buffer themselves, and
 -- those of the calls for C of the number.
 -- Assumes nothing.
-use Prim.Native.Nat.{ℕ, _+_, _*_, _%_, _≤_, _<_}
+use Prim.Native.Nat.{ℕ, _+_, _*_, _%_, _≤_, _<_, max}
 use mathlib.Core.Path.{_≡_}
 use mathlib.Core.List.{List, [], _∷_, _++_, map}
 use mathlib.Core.Logic.{_⊎_, _↔_}
 use lib.ListN.{length, getD, take, drop}
 use Rattle.regex.specs.Expressions.{Exp}
-use Rattle.regex.specs.Values.{Val, flat}
+use Rattle.regex.specs.Values.{Val, flat, Reads}
 use Rattle.regex.specs.Language.{Bytes, L}
 use Rattle.regex.proofs.Bytes.{spelled-bytes}
 use Rattle.table.specs.Records.{count, upTo, kindAt, aAt, bAt}
@@ -22,8 +22,13 @@ use Rattle.table.specs.Expression.{expOf}
 use Rattle.table.proofs.Laws.{other-spells, other-none}
 use Rattle.table.proofs.Checking.{check-passes, check-gives}
 use Rattle.table.proofs.UpTo.{up-to-passes}
-use Rattle.reading.specs.Fitting.{Fits}
+use Rattle.reading.specs.Codec.{recordSize, encode}
+use Rattle.reading.specs.Fitting.{Fits, spelled, kindsAndArguments}
 use Rattle.reading.specs.Calls.{spellSays, spellLeaves}
+use Rattle.reading.proofs.Lengths.{fits-short}
+use Rattle.reading.proofs.Fitting.{fits-unique, bytes-fit}
+use Rattle.reading.proofs.Sizes.{bytes-fits}
+use Rattle.reading.proofs.Forms.{form-fits}
 use Rattle.reading.proofs.Spelling.{spell-writes}
 use Rattle.reading.proofs.Misfits.{spell-misfits}
 use Rattle.tokens.specs.Tokens.{Token, filter, tokensFrom, tokenBytes, taggedParts, hasBytes, textAt, textOf}
@@ -59,7 +64,7 @@ use Rattle.trace.proofs.Numbers.{same-number}
 use Rattle.trace.proofs.UpTo.{up-to-same, up-to-less}
 use Rattle.trace.proofs.Ordering.{small-order, bytes-tokens, bytes-names}
 
--- Demand 1: each call gives a result or one of document 01's refusals, for every table, start number, line, reading and length
+-- Demand 1: each call gives a result or one of document 01's refusals, but never 13 (request 6), for every table, start number, line, reading and length
 pub check-answers : (t : List ℕ) → Small (checked t)
 check-answers = small-checked
 
@@ -102,18 +107,16 @@ compile-keeps = compile-refused
 pub read-right : (t : List ℕ) (k : ℕ) (s : List ℕ) (work : ℕ) (out : List ℕ) (n : ℕ) → readSays t k s work (length out) ≡ gives n → PosixWritten t k s out (readLeaves t k s work out) n
 read-right = read-writes
 
--- Demand 2: for a fitting reading of at most 255 line bytes and a buffer that holds the answer, Spell returns just the line it flattens to
+-- Demand 2: for a fitting reading and a buffer that holds the answer, Spell returns just the line it flattens to
 pub spell-right :
-    (t : List ℕ) (k : ℕ) (bs out : List ℕ) → Passes t → k < count t → (f : Fits t k bs) → length (flat (f .value)) ≤ 255
-    → length (flat (f .value)) ≤ length out
+    (t : List ℕ) (k : ℕ) (bs out : List ℕ) → Passes t → k < count t → (f : Fits t k bs) → length (flat (f .value)) ≤ length out
     → (spellSays t k bs (length out) ≡ gives (length (flat (f .value))))
     × (spellLeaves t k bs out ≡ flat (f .value) ++ drop (length (flat (f .value))) out)
 spell-right = spell-writes
 
 -- Demand 2: and Tokens just its outermost tagged parts of at least one byte
 pub tokens-right :
-    (t : List ℕ) (k : ℕ) (bs out : List ℕ) → Passes t → k < count t → (f : Fits t k bs) → length (flat (f .value)) ≤ 255
-    → 3 * length (tokensFrom t k (f .value) 0) ≤ length out
+    (t : List ℕ) (k : ℕ) (bs out : List ℕ) → Passes t → k < count t → (f : Fits t k bs) → 3 * length (tokensFrom t k (f .value) 0) ≤ length out
     → (tokensSays t k bs (length out) ≡ gives (length (tokensFrom t k (f .value) 0)))
     × (tokensLeaves t k bs out
     ≡ tokenBytes (tokensFrom t k (f .value) 0) ++ drop (length (tokenBytes (tokensFrom t k (f .value) 0))) out)
@@ -161,7 +164,7 @@ pub read-rivals :
     → NoneOutranks (λ x. readSays t k s work (length out) ≡ x) t k s out (readLeaves t k s work out)
 read-rivals = read-outranks
 
--- Demand 3: for any two byte sequences that fit and spell one such line, Compare's answer is document 01's precedence
+-- Demand 3: for any two byte sequences that fit and spell one line, Compare's answer is document 01's precedence
 pub compare-right :
     {t : List ℕ} {k : ℕ} {bs cs : List ℕ} (o : OneLine t k bs cs)
     → AnswersPrecedence (λ x. compareSays t k bs cs ≡ x) bs cs (o .first .value) (o .second .value)
@@ -288,6 +291,28 @@ order-takes-tokens = bytes-tokens
 
 pub order-takes-tags : (xs : List Token) (i : ℕ) → nameAt (tokenBytes xs) i ≡ getD (map (λ (x : Token). x .tag) xs) i 0
 order-takes-tags = bytes-names
+
+-- Request 6: "Since a length over 255 can't be written", what fits spells at most 255 bytes; and of bytes that are the encoding of a reading, with its lengths
+-- and record numbers, nothing more is asked
+pub fits-at-most-255 : {t : List ℕ} {k : ℕ} {bs : List ℕ} → Fits t k bs → length (spelled bs) ≤ 255
+fits-at-most-255 = fits-short
+
+pub fits-encoded :
+    (t : List ℕ) (k : ℕ) (bs : List ℕ) (v : Val) → Bytes bs → Reads (expOf t k) v → bs ≡ encode t k v → Fits t k bs
+fits-encoded = bytes-fit
+
+-- Request 6: "A reading whose written lengths or record numbers aren't the true ones doesn't fit": of the byte sequences with the same kinds and arguments only
+-- one fits, and it is the encoding of one reading
+pub fits-true-lengths : {t : List ℕ} {k : ℕ} {bs cs : List ℕ} → Fits t k bs → Fits t k cs → kindsAndArguments bs ≡ kindsAndArguments cs → bs ≡ cs
+fits-true-lengths = form-fits
+
+pub fits-one-reading : {t : List ℕ} {k : ℕ} {bs : List ℕ} (f g : Fits t k bs) → f .value ≡ g .value
+fits-one-reading = fits-unique
+
+-- Document 01, "Readings", in request 6's bytes: "A fitting reading that spells n bytes has at most m times max(n, 1) records"
+pub fits-size :
+    (t : List ℕ) → Passes t → (k : ℕ) → k < count t → (bs : List ℕ) → Fits t k bs → length bs ≤ recordSize * (count t * max (length (spelled bs)) 1)
+fits-size = bytes-fits
 
 -- Beyond the demands: a table that passes may be lent up to its start record alone. It passes too, with the start record as its last, each call
 -- says and leaves the same by it, and Read needs no more work area

@@ -1,31 +1,35 @@
 -- A table lent up to its start record alone: each call says and leaves the same by it, and Read needs no more work area.
 -- Assumes nothing.
 use Prim.Native.Nat.{ℕ, _+_, _≤_, _<_}
-use mathlib.Core.Path.{_≡_, refl, sym, _∙_, ap, ap₂}
+use mathlib.Core.Path.{_≡_, refl, sym, _∙_, ap, ap₂, subst}
 use mathlib.Core.List.{List}
 use native.Mathlib.Omega.{arith}
 use native.Mathlib.Nat.{mul-le-mul-right}
 use borrow.Author.Tests.{le-ltb}
+use lib.Dec.{ltb}
 use lib.ListN.{length}
-use Rattle.regex.specs.Expressions.{Exp}
-use Rattle.regex.specs.Values.{Val}
-use Rattle.regex.specs.Decision.{Parsed, found, missing}
+use Rattle.regex.specs.Values.{Val, records, Reads}
+use Rattle.regex.specs.Decision.{Parsed, found, missing, parse}
+use Rattle.regex.proofs.Parse.{parse-sound}
+use Rattle.regex.proofs.Flats.{posix-reads}
 use Rattle.table.specs.Records.{count, upTo}
 use Rattle.table.specs.Faults.{Passes}
-use Rattle.table.specs.Answers.{Said}
+use Rattle.table.specs.Answers.{Said, refuses}
+use Rattle.table.specs.Checked.{orElse}
 use Rattle.table.specs.Expression.{expOf}
 use Rattle.table.proofs.UpTo.{up-to-passes, up-to-exp}
-use Rattle.reading.specs.Codec.{decode}
-use Rattle.reading.specs.Fitting.{whole, readingOf}
+use Rattle.reading.specs.Codec.{encode}
+use Rattle.reading.specs.Fitting.{Fits, readingOf}
 use Rattle.table.specs.Buffers.{ifRoom, after}
 use Rattle.reading.specs.Calls.{ifStart, ifFits, bytesOf, spellSays, spellLeaves}
 use Rattle.reading.proofs.Admission.{start-inside}
-use Rattle.reading.proofs.Fitting.{reading-sound}
+use Rattle.reading.proofs.Fitting.{found-fits}
+use Rattle.reading.proofs.UpTo.{up-to-encode, up-to-reading}
 use Rattle.tokens.specs.Tokens.{Token, tokensFrom, tokenBytes}
 use Rattle.tokens.specs.Listed.{tokensSays, tokensLeaves}
 use Rattle.tokens.proofs.UpTo.{up-to-tokens}
 use Rattle.ranking.specs.Answers.{compareParsed, compareSays}
-use Rattle.matcher.specs.Calls.{workSize, readSays, readLeaves}
+use Rattle.matcher.specs.Calls.{workSize, readParsed, readSays, readLeaves}
 use Rattle.trace.specs.SameCalls.{SameCalls}
 
 -- the same answer with the same bytes leaves the same buffer
@@ -40,6 +44,11 @@ same-lists :
 same-lists room missing f g h = (refl, refl)
 same-lists room (found v) f g h = rw (h v refl) (refl, refl)
 
+-- a reading that is found is one of the record
+reads-found : (t : List ℕ) (k : ℕ) (bs : List ℕ) (v : Val) → readingOf t k bs ≡ found v → Reads (expOf t k) v
+reads-found t k bs v e =
+    let f : (f : Fits t k bs) × (f .value ≡ v) = found-fits t k bs v e in subst (λ (u : Val). Reads (expOf t k) u) (f .1) (f .0 .reads)
+
 module _ (t : List ℕ) (k : ℕ) (p : Passes t) (l : k < count t) where
   -- both tables pass and have the start record
   same-start : {x y : Said} → x ≡ y → ifStart (upTo t k) k x ≡ ifStart t k y
@@ -51,8 +60,17 @@ module _ (t : List ℕ) (k : ℕ) (p : Passes t) (l : k < count t) where
   same-exp = up-to-exp t k k (omega arith)
 
   same-reading : (bs : List ℕ) → readingOf (upTo t k) k bs ≡ readingOf t k bs
-  unfolding readingOf
-  same-reading bs = ap (λ (e : Exp). whole (decode e bs)) same-exp
+  same-reading = up-to-reading t k p l
+
+  -- what Read says of the reading that is found, and its bytes
+  same-found :
+      (s : List ℕ) (room : ℕ) (x : Parsed) → parse (expOf t k) s ≡ x
+      → (readParsed (upTo t k) k x room ≡ readParsed t k x room)
+      × (bytesOf x (λ v. encode (upTo t k) k v) ≡ bytesOf x (λ v. encode t k v))
+  same-found s room missing e = (refl, refl)
+  same-found s room (found v) e =
+      let q : encode (upTo t k) k v ≡ encode t k v = up-to-encode t k p l (posix-reads (parse-sound (expOf t k) s v e)) in
+      (ap (λ (bs : List ℕ). ifRoom room bs (records v)) q, q)
 
   up-to-reads :
       (s out : List ℕ) (work less : ℕ) → workSize (count t) (length s) ≤ work → workSize (count (upTo t k)) (length s) ≤ less
@@ -60,9 +78,12 @@ module _ (t : List ℕ) (k : ℕ) (p : Passes t) (l : k < count t) where
       × (readLeaves (upTo t k) k s less out ≡ readLeaves t k s work out)
   unfolding readSays readLeaves
   up-to-reads s out work less g h =
+      let same = same-found s (length out) (parse (expOf t k) s) refl in
       same-after
-      (same-start (rw (le-ltb less (workSize (count (upTo t k)) (length s)) h, le-ltb work (workSize (count t) (length s)) g, same-exp)))
-      (rw same-exp)
+      (same-start
+      (rw (le-ltb less (workSize (count (upTo t k)) (length s)) h, le-ltb work (workSize (count t) (length s)) g, same-exp)
+      (ap (orElse (ltb 255 (length s)) (refuses 7 0)) (same .0))))
+      (rw same-exp (same .1))
       out
 
   up-to-spells :
@@ -82,7 +103,7 @@ module _ (t : List ℕ) (k : ℕ) (p : Passes t) (l : k < count t) where
   up-to-lists bs out =
       let same =
       same-lists (length out) (readingOf t k bs) (λ v. tokensFrom (upTo t k) k v 0) (λ v. tokensFrom t k v 0)
-      (λ v e. up-to-tokens t k p l v (reading-sound t k bs v e .0) 0) in
+      (λ v e. up-to-tokens t k p l v (reads-found t k bs v e) 0) in
       same-after (same-start (rw (same-reading bs) (same .0))) (rw (same-reading bs) (same .1)) out
 
   pub up-to-same : SameCalls t (upTo t k) k

@@ -91,9 +91,17 @@ static void fill(rd *r) {
             }
 }
 
-static void put2(rd *r, uint8_t x, uint8_t y) {
-    if (r->out) { r->out[r->at] = x; r->out[r->at + 1] = y; }
-    r->at += 2;
+/* One record of a reading: kind, argument, length, record number. */
+static void put4(rd *r, uint8_t d, uint8_t x, size_t n, size_t k) {
+    if (FAULT == 133 && n == 255) n = 0;
+    if (r->out) {
+        uint8_t *to = r->out + r->at;
+        to[0] = d;
+        to[1] = x;
+        to[2] = (uint8_t)n;
+        to[3] = (uint8_t)k;
+    }
+    r->at += 4;
 }
 
 static size_t cut(rd *r, size_t a, size_t k, size_t i, size_t j, size_t lo, int shortest) {
@@ -103,22 +111,22 @@ static size_t cut(rd *r, size_t a, size_t k, size_t i, size_t j, size_t lo, int 
 }
 
 static void put(rd *r, size_t k, size_t i, size_t j) {
-    size_t a = fa(r->t, k), b = fb(r->t, k);
+    size_t a = fa(r->t, k), b = fb(r->t, k), n = FAULT == 130 ? r->n - i : FAULT == 131 ? j : j - i;
     switch (kind(r->t, k)) {
-    case 1: put2(r, 0, 0); break;
-    case 2: case 6: put2(r, FAULT == 32 && kind(r->t, k) == 6 ? 6 : 1, r->s[i]); break;
+    case 1: put4(r, 0, 0, n, k); break;
+    case 2: case 6: put4(r, FAULT == 32 && kind(r->t, k) == 6 ? 6 : 1, r->s[i], n, k); break;
     case 3:
-        if (FAULT == 11 ? !*part(r, b, i, j) : *part(r, a, i, j)) { put2(r, 2, 0); put(r, a, i, j); }
-        else { put2(r, 3, 0); put(r, b, i, j); }
+        if (FAULT == 11 ? !*part(r, b, i, j) : *part(r, a, i, j)) { put4(r, 2, 0, n, FAULT == 132 ? a : k); put(r, a, i, j); }
+        else { put4(r, 3, 0, n, FAULT == 132 ? b : k); put(r, b, i, j); }
         break;
     case 4: {
         size_t p = cut(r, a, b, i, j, i, FAULT == 1);
-        put2(r, 4, 0); put(r, a, i, p); put(r, b, p, j);
+        put4(r, 4, 0, FAULT == 117 ? p - i : n, k); put(r, a, i, p); put(r, b, p, j);
         break;
     }
     case 5: {
         size_t at = r->at, count = 0;
-        put2(r, 5, 0);
+        put4(r, 5, 0, n, k);
         while (i < j) {
             size_t p = cut(r, a, k, i, j, i + 1, FAULT == 1 || (FAULT == 2 && count));
             put(r, a, i, p);
@@ -126,6 +134,7 @@ static void put(rd *r, size_t k, size_t i, size_t j) {
             count++;
         }
         if (r->out) r->out[at + 1] = (uint8_t)count;
+        if (r->out && FAULT == 118) r->out[at + 2] = (uint8_t)count;
     }
     }
 }
@@ -141,53 +150,110 @@ uint64_t trace_read(const uint8_t *table, size_t table_len, uint64_t start, cons
     fill(&r);
     if (!*part(&r, (uint32_t)start, 0, line_len) || (FAULT == 3 && line_len > 20)) return refuse(8, 0);
     put(&r, (uint32_t)start, 0, line_len);
-    if (out_len < r.at || (FAULT == 4 && out_len == r.at)) return refuse(11, FAULT == 18 ? r.at / 2 : r.at);
+    if (out_len < r.at || (FAULT == 4 && out_len == r.at)) return refuse(11, FAULT == 18 ? r.at / 4 : FAULT == 134 ? r.at / 2 : r.at);
     r.out = out;
     r.at = 0;
     put(&r, (uint32_t)start, 0, line_len);
     if (FAULT == 14) out[r.at] = 0;
-    return r.at / 2 + (FAULT == 5);
+    return r.at / 4 + (FAULT == 5);
 }
 
-/* Fitting: the place after the element, or SIZE_MAX. */
+/* Faults 127 and 164 to 166: the lengths and record numbers of the reading that is looked at are not. */
+static int lax;
+
+/* Whether a written length is taken where the element spells n bytes and its first part first; count is the argument. */
+static int length_taken(uint8_t written, uint64_t n, uint64_t first, int d, uint8_t count, int root) {
+    if (lax) return 1;
+    switch (FAULT) {
+    case 119: if (n == written + 1u) return 1; break;
+    case 120: if (n + 1 == written) return 1; break;
+    case 121: case 126: return (uint8_t)n == written;
+    case 122: if (d == 4 && written == first) return 1; break;
+    case 123: if (d == 5 && written == count) return 1; break;
+    case 124: if (!root) return 1; break;
+    case 125: return written == (n > 255 ? 255 : n);
+    case 135: return ((written ^ n) & 127) == 0 && n < 256;
+    case 136: if (written == 0) return 1; break;
+    case 137: if (written == 255) return 1; break;
+    case 138: return written <= n && n < 256;
+    case 139: return written >= n;
+    case 140: case 141: case 142: case 143: case 144: case 145: if (d == FAULT - 140) return 1; break;
+    }
+    return written == n;
+}
+
+/* Whether a written record number is taken at record k. */
+static int number_taken(uint8_t written, size_t k, tab t, int d, int root) {
+    if (lax) return 1;
+    switch (FAULT) {
+    case 128: return 1;
+    case 129: if (!root) return 1; break;
+    case 146: case 147: case 148: case 149: case 150: case 151: if (d == FAULT - 146) return 1; break;
+    case 152: return ((written ^ k) & 127) == 0;
+    case 153: if (written == 0) return 1; break;
+    case 154: if (written == t.m) return 1; break;
+    case 155: if ((d == 2 || d == 3 || d == 4) && (written == fa(t, k) || written == fb(t, k))) return 1; break;
+    case 156: return written <= k;
+    case 157: return written >= k;
+    case 158: return written < t.m && kind(t, written) == kind(t, k);
+    }
+    return written == k;
+}
+
+/* Fitting: the place after the element, or SIZE_MAX; n is moved on by what it spells. */
 static size_t element(tab t, size_t k, const uint8_t *v, size_t len, size_t at, uint64_t *n) {
     if (FAULT == 20) {
         volatile uint8_t *big = __builtin_alloca(8192);
         big[0] = big[8191] = 0;
     }
-    size_t a = fa(t, k), b = fb(t, k);
     if (FAULT == 16 && v[at] == 9) return SIZE_MAX;
-    if (len - at < 2) return SIZE_MAX;
-    uint8_t d = v[at], x = v[at + 1];
-    at += 2;
+    if (FAULT == 159 && v[at + 3] == 9) return SIZE_MAX;
+    if (len - at < (FAULT == 160 ? 3 : 4)) return SIZE_MAX;
+    uint8_t d = v[at], x = v[at + 1], written = v[at + 2], number = len - at < 4 ? (uint8_t)k : v[at + 3];
+    int root = at == 0;
+    if (FAULT == 163 && !root && number < t.m) k = number;
+    size_t a = fa(t, k), b = fb(t, k);
+    uint64_t had = *n, first = 0;
+    if (!number_taken(number, k, t, d, root)) return SIZE_MAX;
+    at += len - at < 4 ? 3 : 4;
     switch (kind(t, k)) {
-    case 1: return d == 0 && x == 0 ? at : SIZE_MAX;
+    case 1:
+        if (d || x) return SIZE_MAX;
+        break;
     case 2: case 6:
         if (d != 1 || (!holds(t, k, x) && !(FAULT == 33 && kind(t, k) == 6))) return SIZE_MAX;
-        ++*n;
-        return at;
+        *n += FAULT == 162 ? written : 1;
+        break;
     case 3:
         if (x || (d != 2 && d != 3)) return SIZE_MAX;
-        return element(t, d == 2 ? a : b, v, len, at, n);
+        at = element(t, d == 2 ? a : b, v, len, at, n);
+        break;
     case 4:
         if (x || d != 4) return SIZE_MAX;
         at = element(t, a, v, len, at, n);
-        return at == SIZE_MAX ? at : element(t, b, v, len, at, n);
+        first = *n - had;
+        if (at != SIZE_MAX) at = element(t, b, v, len, at, n);
+        break;
     case 5:
         if (d != 5) return SIZE_MAX;
-        while (x--) {
-            uint64_t had = *n;
+        for (int i = 0; i < x && at != SIZE_MAX; i++) {
+            uint64_t before = *n;
             at = element(t, a, v, len, at, n);
-            if (at == SIZE_MAX || (*n == had && FAULT != 12)) return SIZE_MAX;
+            if (*n == before && FAULT != 12) return SIZE_MAX;
         }
-        return at;
+        break;
     default: return SIZE_MAX;
     }
+    return at != SIZE_MAX && length_taken(written, *n - had, first, d, x, root) ? at : SIZE_MAX;
 }
 
 static uint64_t fits(tab t, size_t k, const uint8_t *v, size_t len, uint64_t which, uint64_t *n) {
     *n = 0;
-    return element(t, k, v, len, 0, n) == len ? 0 : refuse(12, which);
+    if (FAULT == 161 && which == 1) which = 0;
+    size_t at = element(t, k, v, len, 0, n);
+    lax = 0;
+    if (FAULT == 126 && at == len && *n > 255) return refuse(13, which);
+    return at == len ? 0 : refuse(12, which);
 }
 
 uint64_t trace_spell(const uint8_t *table, size_t table_len, uint64_t start, const uint8_t *reading,
@@ -195,10 +261,10 @@ uint64_t trace_spell(const uint8_t *table, size_t table_len, uint64_t start, con
     uint64_t n, e, c = open_table(table, table_len, start);
     if (c >> 32) return c;
     tab t = {table, c};
+    lax = FAULT == 164;
     if ((e = fits(t, (uint32_t)start, reading, reading_len, 0, &n)) || FAULT == 8) return refuse(12, 0);
-    if (n > 255) return refuse(13, 0);
     if (out_len < n) return refuse(11, n);
-    for (size_t i = 0, at = 0; i < reading_len; i += 2) if (reading[i] == 1) out[at++] = reading[i + 1];
+    for (size_t i = 0, at = 0; i + 4 <= reading_len; i += 4) if (reading[i] == 1) out[at++] = reading[i + 1];
     return n;
 }
 
@@ -238,7 +304,7 @@ static size_t tokens(tab t, size_t k, const uint8_t *v, size_t len, size_t at, u
 static size_t inside(tab t, size_t k, const uint8_t *v, size_t len, size_t at, uint64_t *off, uint8_t *out, size_t *cnt) {
     size_t a = fa(t, k), b = fb(t, k);
     uint8_t d = v[at], x = v[at + 1];
-    at += 2;
+    at += 4;
     switch (kind(t, k)) {
     case 6: if (FAULT == 34) break; /* fall through */
     case 2: ++*off; break;
@@ -255,8 +321,8 @@ uint64_t trace_tokens(const uint8_t *table, size_t table_len, uint64_t start, co
     size_t need = 0;
     if (c >> 32) return c;
     tab t = {table, c};
+    lax = FAULT == 165;
     if ((e = fits(t, (uint32_t)start, reading, reading_len, 0, &n))) return e;
-    if (n > 255) return refuse(13, 0);
     tokens(t, (uint32_t)start, reading, reading_len, 0, &off, NULL, &need);
     if (FAULT == 7) return 0;
     if (out_len < need) return refuse(11, need);
@@ -267,26 +333,23 @@ uint64_t trace_tokens(const uint8_t *table, size_t table_len, uint64_t start, co
 }
 
 /* The first difference of two walks, parent first, decides. */
-static int rank(tab t, size_t k, const uint8_t *v, size_t vl, const uint8_t *w, size_t wl, size_t *x, size_t *y) {
-    uint64_t n = 0, o = 0;
-    element(t, k, v, vl, *x, &n);
-    element(t, k, w, wl, *y, &o);
-    if (n != o) return n > o ? 1 : 2;
+static int rank(tab t, size_t k, const uint8_t *v, const uint8_t *w, size_t *x, size_t *y) {
     size_t a = fa(t, k), b = fb(t, k);
-    uint8_t dv = v[*x], dw = w[*y], cv = v[*x + 1], cw = w[*y + 1];
-    *x += 2;
-    *y += 2;
+    uint8_t dv = v[*x], dw = w[*y], cv = v[*x + 1], cw = w[*y + 1], n = v[*x + 2], o = w[*y + 2];
+    *x += 4;
+    *y += 4;
     int g;
+    if (n != o) return n > o ? 1 : 2;
     switch (kind(t, k)) {
     case 3:
         if (dv != dw) return dv == 2 ? 1 : 2;
-        return rank(t, dv == 2 ? a : b, v, vl, w, wl, x, y);
+        return rank(t, dv == 2 ? a : b, v, w, x, y);
     case 4:
-        if ((g = rank(t, a, v, vl, w, wl, x, y))) return g;
-        return rank(t, b, v, vl, w, wl, x, y);
+        if ((g = rank(t, a, v, w, x, y))) return g;
+        return rank(t, b, v, w, x, y);
     case 5:
         if (FAULT == 13 && cv != cw) return cv > cw ? 1 : 2;
-        for (int i = 0; i < cv && i < cw; i++) if ((g = rank(t, a, v, vl, w, wl, x, y))) return g;
+        for (int i = 0; i < cv && i < cw; i++) if ((g = rank(t, a, v, w, x, y))) return g;
         return cv == cw ? 0 : cv > cw ? 1 : 2;
     }
     return 0;
@@ -295,12 +358,12 @@ static int rank(tab t, size_t k, const uint8_t *v, size_t vl, const uint8_t *w, 
 static int same_line(const uint8_t *v, size_t vl, const uint8_t *w, size_t wl) {
     size_t i = 0, j = 0;
     for (;;) {
-        while (i < vl && v[i] != 1) i += 2;
-        while (j < wl && w[j] != 1) j += 2;
+        while (i < vl && v[i] != 1) i += 4;
+        while (j < wl && w[j] != 1) j += 4;
         if (i >= vl || j >= wl) return i >= vl && j >= wl;
         if (v[i + 1] != w[j + 1]) return 0;
-        i += 2;
-        j += 2;
+        i += 4;
+        j += 4;
     }
 }
 
@@ -309,15 +372,15 @@ uint64_t trace_compare(const uint8_t *table, size_t table_len, uint64_t start, c
     uint64_t n, o, e, c = open_table(table, table_len, start);
     if (c >> 32) return c;
     tab t = {table, c};
+    lax = FAULT == 166;
     if ((e = fits(t, (uint32_t)start, first, first_len, 0, &n))) return e;
-    if (FAULT == 19 && n > 255) return refuse(13, 0);
+    if (FAULT == 19 && second_len > 2 && n != second[2]) return refuse(14, 0);
+    lax = FAULT == 127;
     if ((e = fits(t, (uint32_t)start, second, second_len, 1, &o))) return e;
-    if (n > 255) return refuse(13, 0);
-    if (o > 255) return refuse(13, 1);
     if (!same_line(first, first_len, second, second_len)) return refuse(14, 0);
     if (FAULT == 6) return 0;
     size_t x = 0, y = 0;
-    return (uint64_t)rank(t, (uint32_t)start, first, first_len, second, second_len, &x, &y);
+    return (uint64_t)rank(t, (uint32_t)start, first, second, &x, &y);
 }
 
 /* The notation, from left to right. The record of what was parsed last is the

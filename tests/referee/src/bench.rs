@@ -1,6 +1,7 @@
 //! The lines on the bench of document 01: tables T1 to T4, cases A to J and
-//! the edges. And lines for Other, for empty tagged parts, for the notation and
-//! for names that must come first, requests 1 to 3 and 5 of document 02.
+//! the edges. And lines for Other, for empty tagged parts, for the notation, for
+//! names that must come first, and for lengths and record numbers that are not
+//! the true ones, requests 1 to 3, 5 and 6 of document 02.
 
 use crate::pairs::Pair;
 
@@ -24,13 +25,18 @@ const NO_DIGIT: &[u8] = &[6, 0x30, 0x39, 0];
 
 /// a, Empty and b, tagged 1, 2 and 3, and the reading of ab.
 const BETWEEN: &[u8] = &[2, 0x61, 0x61, 1, 1, 0, 0, 2, 2, 0x62, 0x62, 3, 4, 1, 2, 0, 4, 0, 3, 0];
-const BETWEEN_READING: &[u8] = &[4, 0, 1, 0x61, 4, 0, 0, 0, 1, 0x62];
+const BETWEEN_READING: &[u8] = &[4, 0, 2, 4, 1, 0x61, 1, 0, 4, 0, 1, 3, 0, 0, 0, 1, 1, 0x62, 1, 2];
 /// Two Empties, tagged 1 and 2, in a Seq, tagged 3.
 const EMPTIES: &[u8] = &[1, 0, 0, 1, 1, 0, 0, 2, 4, 0, 1, 3];
+const EMPTIES_READING: &[u8] = &[4, 0, 0, 2, 0, 0, 0, 0, 0, 0, 0, 1];
 /// g or Empty, tagged 1, in front of a, tagged 2.
 const OPTIONAL: &[u8] = &[2, 0x67, 0x67, 0, 1, 0, 0, 0, 3, 0, 1, 1, 2, 0x61, 0x61, 2, 4, 2, 3, 0];
+const ABSENT: &[u8] = &[4, 0, 1, 4, 3, 0, 0, 2, 0, 0, 0, 1, 1, 0x61, 1, 3];
+const THERE: &[u8] = &[4, 0, 2, 4, 2, 0, 1, 2, 1, 0x67, 1, 0, 1, 0x61, 1, 3];
 /// a*, tagged 1, in front of b, tagged 2.
 const STAR_FIRST: &[u8] = &[2, 0x61, 0x61, 0, 5, 0, 0, 1, 2, 0x62, 0x62, 2, 4, 1, 2, 0];
+const NO_ITERATION: &[u8] = &[4, 0, 1, 3, 5, 0, 0, 1, 1, 0x62, 1, 2];
+const ONE_ITERATION: &[u8] = &[4, 0, 2, 3, 5, 1, 1, 1, 1, 0x61, 1, 0, 1, 0x62, 1, 2];
 
 /// Texts of the notation and their tables.
 const INSIDE: &[(&str, &[u8])] = &[
@@ -111,7 +117,7 @@ pub enum Request {
 
 fn read(name: &'static str, table: &[u8], line: &[u8], reading: &[u8]) -> Stated {
     let m = table.len() / 4;
-    let number = if reading.is_empty() { refusal(8) } else { reading.len() as u64 / 2 };
+    let number = if reading.is_empty() { refusal(8) } else { reading.len() as u64 / 4 };
     Stated {
         name,
         request: Request::Read {
@@ -138,20 +144,27 @@ fn edge_read(
 }
 
 pub fn stated() -> Vec<Stated> {
-    let c = [5, 2, 2, 0, 2, 0, 1, 0x61, 3, 0, 4, 0, 1, 0x62, 1, 0x63];
-    let f = [4, 0, 2, 0, 1, 0x61, 2, 0, 1, 0x62];
-    let g = [4, 0, 3, 0, 0, 0, 3, 0, 4, 0, 1, 0x61, 1, 0x62];
-    let ab = [2, 0, 3, 0, 4, 0, 1, 0x61, 1, 0x62];
+    let c = [
+        5, 2, 3, 9, 2, 0, 1, 8, 2, 0, 1, 7, 1, 0x61, 1, 0, 3, 0, 2, 8, 4, 0, 2, 6, 1, 0x62, 1, 4,
+        1, 0x63, 1, 5,
+    ];
+    let f = [4, 0, 2, 8, 2, 0, 1, 2, 1, 0x61, 1, 0, 2, 0, 1, 7, 1, 0x62, 1, 3];
+    let g =
+        [4, 0, 2, 8, 3, 0, 0, 2, 0, 0, 0, 1, 3, 0, 2, 7, 4, 0, 2, 6, 1, 0x61, 1, 4, 1, 0x62, 1, 5];
+    let ab = [2, 0, 2, 8, 3, 0, 2, 7, 4, 0, 2, 3, 1, 0x61, 1, 1, 1, 0x62, 1, 2];
     let mut d = c.to_vec();
     d[1] = 3;
+    d[2] = 5;
     d.extend(ab);
-    let mut b = vec![5, 1];
+    let mut b = vec![5, 1, 2, 9];
     b.extend(ab);
-    let remark = [4, 0, 5, 2, 1, 0x61, 1, 0x62, 1, 0x3b];
+    let remark = [4, 0, 3, 3, 5, 2, 2, 1, 1, 0x61, 1, 0, 1, 0x62, 1, 0, 1, 0x3b, 1, 2];
+    let semicolon = [4, 0, 2, 3, 5, 1, 1, 1, 1, 0x3b, 1, 0, 1, 0x3b, 1, 2];
+    let remark_empty = [4, 0, 1, 3, 5, 0, 0, 1, 1, 0x3b, 1, 2];
     // The edge lines are read by a*.
     let many = vec![2, 0x61, 0x61, 0, 5, 0, 0, 0];
-    let mut long = vec![5, 255];
-    long.extend([1, 0x61].repeat(255));
+    let mut long = vec![5, 255, 255, 1];
+    long.extend([1, 0x61, 1, 0].repeat(255));
     let compare = |name, first: &[u8], second: &[u8], number| Stated {
         name,
         request: Request::Compare {
@@ -206,7 +219,7 @@ pub fn stated() -> Vec<Stated> {
     texts.push(compile("4,097 bytes", &[0x61; 4097], refusal(15), &[]));
     texts.push(compile("the highest range", b"[\0-\xff]", 1, &[2, 0, 255, 0]));
     let mut lines = vec![
-        read("A", T1, b"", &[5, 0]),
+        read("A", T1, b"", &[5, 0, 0, 9]),
         read("B", T1, b"ab", &b),
         read("C", T1, b"abc", &c),
         read("D", T1, b"abcab", &d),
@@ -216,12 +229,12 @@ pub fn stated() -> Vec<Stated> {
         compare("G", &f, &g, 1),
         compare("G turned", &g, &f, 2),
         compare("G same", &g, &g, 0),
-        spell("H", T3, &[5, 1, 0, 0], None),
-        read("I", T3, b"", &[5, 0]),
-        read("J", T4, b"", &[0, 0]),
-        tokens("J", T4, &[0, 0], &[]),
+        spell("H", T3, &[5, 1, 0, 1, 0, 0, 0, 0], None),
+        read("I", T3, b"", &[5, 0, 0, 1]),
+        read("J", T4, b"", &[0, 0, 0, 0]),
+        tokens("J", T4, &[0, 0, 0, 0], &[]),
         tokens("program, abc", T1, &c, &[1, 0, 1, 3, 1, 2]),
-        tokens("program, empty", T1, &[5, 0], &[]),
+        tokens("program, empty", T1, &[5, 0, 0, 9], &[]),
         check("T1", T1.to_vec(), 10),
         check("T2", T2.to_vec(), 9),
         check("T3", T3.to_vec(), 2),
@@ -236,44 +249,99 @@ pub fn stated() -> Vec<Stated> {
         read("remark", REMARK, b"ab;", &remark),
         spell("remark", REMARK, &remark, Some(b"ab;")),
         tokens("remark", REMARK, &remark, &[1, 0, 2]),
-        read("remark, empty", REMARK, b";", &[4, 0, 5, 0, 1, 0x3b]),
-        tokens("remark, empty", REMARK, &[4, 0, 5, 0, 1, 0x3b], &[]),
+        read("remark, empty", REMARK, b";", &remark_empty),
+        tokens("remark, empty", REMARK, &remark_empty, &[]),
         read("remark, a semicolon inside", REMARK, b"a;b;", &[]),
         read("remark, no semicolon", REMARK, b"ab", &[]),
-        spell("remark, a semicolon inside", REMARK, &[4, 0, 5, 1, 1, 0x3b, 1, 0x3b], None),
+        spell("remark, a semicolon inside", REMARK, &semicolon, None),
         check("Other of no byte", NO_BYTE.to_vec(), 1),
         read("Other of no byte", NO_BYTE, b"a", &[]),
         read("Other of no byte, empty line", NO_BYTE, b"", &[]),
-        spell("Other of no byte", NO_BYTE, &[1, 0x61], None),
-        read("Other below", NOT_5, &[4], &[1, 4]),
-        read("Other above", NOT_5, &[6], &[1, 6]),
+        spell("Other of no byte", NO_BYTE, &[1, 0x61, 1, 0], None),
+        read("Other below", NOT_5, &[4], &[1, 4, 1, 0]),
+        read("Other above", NOT_5, &[6], &[1, 6, 1, 0]),
         read("Other at its bound", NOT_5, &[5], &[]),
-        read("Other, lowest byte", NOT_5, &[0], &[1, 0]),
-        read("Other, highest byte", NOT_5, &[255], &[1, 255]),
+        read("Other, lowest byte", NOT_5, &[0], &[1, 0, 1, 0]),
+        read("Other, highest byte", NOT_5, &[255], &[1, 255, 1, 0]),
         read("Other, empty line", NOT_5, b"", &[]),
         read("Other, two bytes", NOT_5, &[4, 6], &[]),
-        spell("Other at its bound", NOT_5, &[1, 5], None),
-        read("Other below its lowest", NO_DIGIT, &[0x2f], &[1, 0x2f]),
+        spell("Other at its bound", NOT_5, &[1, 5, 1, 0], None),
+        read("Other below its lowest", NO_DIGIT, &[0x2f], &[1, 0x2f, 1, 0]),
         read("Other at its lowest", NO_DIGIT, &[0x30], &[]),
         read("Other at its highest", NO_DIGIT, &[0x39], &[]),
-        read("Other above its highest", NO_DIGIT, &[0x3a], &[1, 0x3a]),
+        read("Other above its highest", NO_DIGIT, &[0x3a], &[1, 0x3a, 1, 0]),
         check("Other with a above b", vec![1, 0, 0, 0, 6, 5, 4, 0], refusal(4) + 1),
         check("kind 7", vec![1, 0, 0, 0, 7, 0, 0, 0], refusal(2) + 1),
         read("empty between two bytes", BETWEEN, b"ab", BETWEEN_READING),
         tokens("empty between two bytes", BETWEEN, BETWEEN_READING, &[1, 0, 1, 3, 1, 1]),
-        read("empty with tags inside", EMPTIES, b"", &[4, 0, 0, 0, 0, 0]),
-        tokens("empty with tags inside", EMPTIES, &[4, 0, 0, 0, 0, 0], &[]),
-        read("optional, absent", OPTIONAL, b"a", &[4, 0, 3, 0, 0, 0, 1, 0x61]),
-        tokens("optional, absent", OPTIONAL, &[4, 0, 3, 0, 0, 0, 1, 0x61], &[2, 0, 1]),
-        read("optional, there", OPTIONAL, b"ga", &[4, 0, 2, 0, 1, 0x67, 1, 0x61]),
-        tokens("optional, there", OPTIONAL, &[4, 0, 2, 0, 1, 0x67, 1, 0x61], &[1, 0, 1, 2, 1, 1]),
-        read("no iteration", STAR_FIRST, b"b", &[4, 0, 5, 0, 1, 0x62]),
-        tokens("no iteration", STAR_FIRST, &[4, 0, 5, 0, 1, 0x62], &[2, 0, 1]),
-        read("one iteration", STAR_FIRST, b"ab", &[4, 0, 5, 1, 1, 0x61, 1, 0x62]),
-        tokens("one iteration", STAR_FIRST, &[4, 0, 5, 1, 1, 0x61, 1, 0x62], &[1, 0, 1, 2, 1, 1]),
+        read("empty with tags inside", EMPTIES, b"", EMPTIES_READING),
+        tokens("empty with tags inside", EMPTIES, EMPTIES_READING, &[]),
+        read("optional, absent", OPTIONAL, b"a", ABSENT),
+        tokens("optional, absent", OPTIONAL, ABSENT, &[2, 0, 1]),
+        read("optional, there", OPTIONAL, b"ga", THERE),
+        tokens("optional, there", OPTIONAL, THERE, &[1, 0, 1, 2, 1, 1]),
+        read("no iteration", STAR_FIRST, b"b", NO_ITERATION),
+        tokens("no iteration", STAR_FIRST, NO_ITERATION, &[2, 0, 1]),
+        read("one iteration", STAR_FIRST, b"ab", ONE_ITERATION),
+        tokens("one iteration", STAR_FIRST, ONE_ITERATION, &[1, 0, 1, 2, 1, 1]),
     ];
+    lines.extend(wrong_ones(&b));
     lines.extend(texts);
     lines.extend(orders());
+    lines
+}
+
+/// B's reading with a wrong length or record number, and a reading by a*a* of
+/// 256 bytes, whose length can't be written.
+fn wrong_ones(b: &[u8]) -> Vec<Stated> {
+    let each = |name, table: &[u8], good: &[u8], bad: &[u8]| {
+        let (start, t) = (table.len() as u64 / 4 - 1, || table.to_vec());
+        let compare = |first: &[u8], second: &[u8]| {
+            let (first, second) = (first.to_vec(), second.to_vec());
+            Request::Compare { table: t(), start, first, second }
+        };
+        let requests = [
+            (Request::Spell { table: t(), start, reading: bad.to_vec() }, refusal(12)),
+            (Request::Tokens { table: t(), start, reading: bad.to_vec() }, refusal(12)),
+            (compare(bad, good), refusal(12)),
+            (compare(good, bad), refusal(12) + 1),
+        ];
+        let stated = |(request, number)| Stated { name, request, number, written: vec![] };
+        requests.map(stated)
+    };
+    let mut lines = Vec::new();
+    let one_byte: [(&str, usize, u8); 10] = [
+        ("B, the root's length 1", 2, 1),
+        ("B, the root's length 3", 2, 3),
+        ("B, the root's length 0", 2, 0),
+        ("B, the root's number 8", 3, 8),
+        ("B, the root's number 10", 3, 10),
+        ("B, the Seq's length that of its first part", 14, 1),
+        ("B, the Seq's number that of its first part", 15, 1),
+        ("B, Right's number that of the other alternative's part", 11, 0),
+        ("B, a Byte's length 0", 18, 0),
+        ("B, a Byte's number that of the other a", 19, 0),
+    ];
+    for (name, at, byte) in one_byte {
+        let mut bad = b.to_vec();
+        bad[at] = byte;
+        lines.extend(each(name, T1, b, &bad));
+    }
+    let two_stars = [2, 0x61, 0x61, 0, 5, 0, 0, 0, 2, 0x61, 0x61, 0, 5, 2, 0, 0, 4, 1, 3, 0];
+    let seconds: [&[u8]; 2] = [&[5, 0, 0, 3], &[5, 1, 1, 3, 1, 0x61, 1, 2]];
+    let read_as = |length: u8, second: &[u8]| {
+        [&[4, 0, length, 4, 5, 255, 255, 1], &[1, 0x61, 1, 0].repeat(255)[..], second].concat()
+    };
+    let good = read_as(255, seconds[0]);
+    lines.push(Stated {
+        name: "255 bytes",
+        request: Request::Spell { table: two_stars.to_vec(), start: 4, reading: good.clone() },
+        number: 255,
+        written: vec![0x61; 255],
+    });
+    for length in 0..=255 {
+        lines.extend(each("256 bytes", &two_stars, &good, &read_as(length, seconds[1])));
+    }
     lines
 }
 
@@ -328,7 +396,7 @@ mod tests {
     };
     use crate::rivals::rivals;
     use crate::table::{check, Kind, Letter, Table};
-    use crate::value::{fit, Value};
+    use crate::value::{fit, Value, RECORD};
     use crate::{posix, relation};
     use std::cmp::Ordering;
 
@@ -364,32 +432,33 @@ mod tests {
     #[test]
     fn refusal_11_states_the_need() {
         let mut reader = Reader::default();
-        let mut out = [0; 15];
+        let mut out = [0; 31];
         let answer = reader.trace_read(T1, 9, b"abc", 100, &mut out);
-        assert_eq!(answer, (11 << 32) + 16);
-        assert_eq!(out, [0; 15]);
+        assert_eq!(answer, (11 << 32) + 32);
+        assert_eq!(out, [0; 31]);
         let reading = reader.reading(&check(T1).unwrap(), 9, b"abc").unwrap();
         assert_eq!(trace_spell(T1, 9, &reading, &mut out[..2]), (11 << 32) + 3);
         assert_eq!(trace_tokens(T1, 9, &reading, &mut out[..5]), (11 << 32) + 6);
         let between = trace_tokens(BETWEEN, 4, BETWEEN_READING, &mut out[..5]);
         assert_eq!(between, (11 << 32) + 6);
-        assert_eq!(trace_compile(b"ab|c*", &mut out), (11 << 32) + 24);
-        assert_eq!(out, [0; 15]);
+        assert_eq!(trace_compile(b"ab|c*", &mut out[..23]), (11 << 32) + 24);
+        assert_eq!(out, [0; 31]);
     }
 
     #[test]
     fn order_of_refusals_in_compare() {
         let many = [2, 0x61, 0x61, 0, 5, 0, 0, 0, 5, 1, 0, 0];
-        let mut over = vec![5, 2, 5, 255];
-        over.extend([1, 0x61].repeat(255));
-        over.extend([5, 1, 1, 0x61]);
-        let one = [5, 1, 5, 1, 1, 0x61];
+        let mut over = vec![5, 2, 0, 2, 5, 255, 255, 1];
+        over.extend([1, 0x61, 1, 0].repeat(255));
+        over.extend([5, 1, 1, 1, 1, 0x61, 1, 0]);
+        let one = [5, 1, 1, 2, 5, 1, 1, 1, 1, 0x61, 1, 0];
         let compare = |first: &[u8], second: &[u8]| trace_compare(&many, 2, first, second);
         assert_eq!(compare(&[0], &[0]), 12 << 32);
-        assert_eq!(compare(&over, &[0]), (12 << 32) + 1);
-        assert_eq!(compare(&over, &over), 13 << 32);
-        assert_eq!(compare(&one, &over), (13 << 32) + 1);
-        assert_eq!(compare(&one, &[5, 0]), 14 << 32);
+        assert_eq!(compare(&over, &[0]), 12 << 32);
+        assert_eq!(compare(&over, &one), 12 << 32);
+        assert_eq!(compare(&one, &over), (12 << 32) + 1);
+        assert_eq!(compare(&one, &[5, 0, 1, 2]), (12 << 32) + 1);
+        assert_eq!(compare(&one, &[5, 0, 0, 2]), 14 << 32);
         assert_eq!(compare(&one, &one), 0);
         assert_eq!(trace_compare(&many, 3, &[0], &[0]), 9 << 32);
     }
@@ -435,10 +504,10 @@ mod tests {
             let ranked = if v == best { Ordering::Equal } else { Ordering::Less };
             assert_eq!(rank(best, v), ranked);
             assert_eq!(rank(v, best), ranked.reverse());
-            assert_eq!(fit(t, k, &v.reading()).as_ref(), Some(v));
+            assert_eq!(fit(t, k, &v.reading(t, k)).as_ref(), Some(v));
             assert_eq!(v.line(), line);
             let bound = t.records.len() * line.len().max(1);
-            assert!(v.reading().len() / 2 <= bound);
+            assert!(v.reading(t, k).len() / RECORD <= bound);
         }
     }
 
@@ -464,7 +533,7 @@ mod tests {
             let mut room = Room { bytes: 3, eager: false };
             if let Some(v) = Grower::new(&t).value(&mut rng, k, &mut room) {
                 let line = v.line();
-                assert_eq!(fit(&t, k, &v.reading()), Some(v));
+                assert_eq!(fit(&t, k, &v.reading(&t, k)), (line.len() < 256).then_some(v));
                 if line.len() <= 4 {
                     small(&t, k, &line);
                 }
@@ -507,10 +576,10 @@ mod tests {
         let mut fitted = 0;
         for _ in 0..20_000 {
             let Some((t, k, v)) = drawn(&mut rng, 8, 6) else { continue };
-            let damaged = damaged_reading(&mut rng, &v.reading());
+            let damaged = damaged_reading(&mut rng, &v.reading(&t, k));
             if let Some(w) = fit(&t, k, &damaged) {
                 fitted += 1;
-                assert_eq!(w.reading(), damaged);
+                assert_eq!(w.reading(&t, k), damaged);
                 let line = w.line();
                 if line.len() <= 3 {
                     assert!(rivals(&t, k, &line).contains(&w));
@@ -541,8 +610,8 @@ mod tests {
             let Some((t, k, v)) = drawn(&mut rng, 12, 12) else { continue };
             let none = without_others(&t, Kind::Nothing);
             let all = without_others(&t, Kind::Letter(Letter::range(0, 255)));
-            met += u32::from(fit(&none, k, &v.reading()).is_none());
-            let damaged = damaged_reading(&mut rng, &v.reading());
+            met += u32::from(fit(&none, k, &v.reading(&t, k)).is_none());
+            let damaged = damaged_reading(&mut rng, &v.reading(&t, k));
             let fits = |t| fit(t, k, &damaged).is_some();
             unfit += u32::from(fits(&all) && !fits(&t));
             let line = changed_line(&mut rng, &v.line());
@@ -580,7 +649,7 @@ mod tests {
             beside += u32::from(!empty.is_empty() && !full.is_empty());
             around += u32::from(empty.iter().any(|&(k, v)| holds_tags(k, v)));
             let mut out = vec![0; 3 * v.line().len()];
-            let listed = trace_tokens(&t.bytes(), k as u64, &v.reading(), &mut out);
+            let listed = trace_tokens(&t.bytes(), k as u64, &v.reading(&t, k), &mut out);
             assert_eq!(listed, full.len() as u64);
         }
         assert!(met > 200 && beside > 50 && around > 40);

@@ -1,5 +1,5 @@
-//! The calls as document 01 and requests 3 and 5 of document 02 state them, on
-//! slices.
+//! The calls as document 01 and requests 3, 5 and 6 of document 02 state them,
+//! on slices.
 
 use crate::notation;
 use crate::order;
@@ -7,7 +7,7 @@ use crate::pairs::{self, Pair};
 use crate::posix;
 use crate::relation;
 use crate::table::{check, pack, refuse, Refusal, Table};
-use crate::value::{fit, Value};
+use crate::value::{fit, Value, RECORD};
 use std::cmp::Ordering;
 
 /// Derivatives beyond this many are left to the relation alone.
@@ -58,7 +58,7 @@ impl Reader {
             }
             None => self.by_relation_alone += 1,
         }
-        let reading = by_relation.map(|v| v.reading());
+        let reading = by_relation.map(|v| v.reading(table, k));
         let last = Last { table: table.clone(), k, line: line.to_vec(), reading };
         self.last.insert(last).reading.clone()
     }
@@ -93,7 +93,7 @@ impl Reader {
             None => refuse(8, 0),
             Some(reading) => {
                 put(&reading, out)?;
-                Ok(reading.len() as u64 / 2)
+                Ok((reading.len() / RECORD) as u64)
             }
         }
     }
@@ -135,14 +135,6 @@ fn fitting(table: &Table, k: usize, reading: &[u8], which: usize) -> Result<Valu
     }
 }
 
-fn short_line(value: &Value, which: usize) -> Result<Vec<u8>, Refusal> {
-    let line = value.line();
-    if line.len() > 255 {
-        return refuse(13, which);
-    }
-    Ok(line)
-}
-
 /// Writes an answer to the front of the buffer, or refuses with 11.
 fn put(answer: &[u8], out: &mut [u8]) -> Result<(), Refusal> {
     match out.get_mut(..answer.len()) {
@@ -156,8 +148,7 @@ fn put(answer: &[u8], out: &mut [u8]) -> Result<(), Refusal> {
 
 fn spell(table: &[u8], start: u64, reading: &[u8], out: &mut [u8]) -> Result<u64, Refusal> {
     let (table, k) = open(table, start)?;
-    let value = fitting(&table, k, reading, 0)?;
-    let line = short_line(&value, 0)?;
+    let line = fitting(&table, k, reading, 0)?.line();
     put(&line, out)?;
     Ok(line.len() as u64)
 }
@@ -166,9 +157,7 @@ fn compare(table: &[u8], start: u64, first: &[u8], second: &[u8]) -> Result<u64,
     let (table, k) = open(table, start)?;
     let value_one = fitting(&table, k, first, 0)?;
     let value_two = fitting(&table, k, second, 1)?;
-    let line_one = short_line(&value_one, 0)?;
-    let line_two = short_line(&value_two, 1)?;
-    if line_one != line_two {
+    if value_one.line() != value_two.line() {
         return refuse(14, 0);
     }
     if first == second {
@@ -184,11 +173,10 @@ fn compare(table: &[u8], start: u64, first: &[u8], second: &[u8]) -> Result<u64,
 fn tokens(table: &[u8], start: u64, reading: &[u8], out: &mut [u8]) -> Result<u64, Refusal> {
     let (table, k) = open(table, start)?;
     let value = fitting(&table, k, reading, 0)?;
-    let line = short_line(&value, 0)?;
     let mut list = Vec::new();
     walk(&table, k, &value, &mut 0, &mut list);
     // One token for each byte at most: 3 bytes for each are always enough.
-    assert!(list.len() <= 3 * line.len(), "the referee lists more tokens than bytes");
+    assert!(list.len() <= 3 * value.line().len(), "the referee lists more tokens than bytes");
     put(&list, out)?;
     Ok(list.len() as u64 / 3)
 }

@@ -1,11 +1,13 @@
 //! Small cases, all of them.
 
 use crate::harness::{check, compare, read, spell, tokens, Harness};
+use crate::unfit;
 use referee::bench::{refusal, stated, Request, T1};
 use referee::calls::work_need;
 use referee::random::{all_lines, all_tables, star_nest};
 use referee::rivals::rivals;
 use referee::table::{Letter, Table};
+use referee::value::RECORD;
 
 /// Cases A to J, the edges, Other, empty tagged parts, texts and pairs of
 /// names, against stated answers.
@@ -87,7 +89,7 @@ pub fn tables(h: &mut Harness, records: usize) {
             h.put(check(&bytes), 0);
             let need = work_need(m, 0);
             h.put(read(&bytes, m as u64, b"", need), 8);
-            h.put(spell(&bytes, m as u64, &[0, 0]), 8);
+            h.put(spell(&bytes, m as u64, &[0, 0, 0, 0]), 8);
         });
     }
 }
@@ -97,11 +99,11 @@ pub fn tables(h: &mut Harness, records: usize) {
 fn all_rivals(h: &mut Harness, table: &Table, k: usize, line: &[u8]) {
     let (bytes, start) = (table.bytes(), k as u64);
     let need = work_need(table.records.len(), line.len());
-    let all: Vec<Vec<u8>> = rivals(table, k, line).iter().map(|v| v.reading()).collect();
-    h.put_stated(read(&bytes, start, line, need - 1), 64, refusal(10), &[]);
+    let all: Vec<Vec<u8>> = rivals(table, k, line).iter().map(|v| v.reading(table, k)).collect();
+    h.put_stated(read(&bytes, start, line, need - 1), 128, refusal(10), &[]);
     let Some(best) = h.reader.reading(table, k, line) else {
         assert!(all.is_empty(), "the referee misses a reading");
-        h.put_stated(read(&bytes, start, line, need), 2, refusal(8), &[]);
+        h.put_stated(read(&bytes, start, line, need), 4, refusal(8), &[]);
         return;
     };
     assert!(all.contains(&best), "the referee's reading is no rival");
@@ -111,7 +113,7 @@ fn all_rivals(h: &mut Harness, table: &Table, k: usize, line: &[u8]) {
         h.put_stated(read(&bytes, start, line, need), out_len, number, &[]);
     }
     for out_len in [best.len(), best.len() + 3] {
-        let count = best.len() as u64 / 2;
+        let count = (best.len() / RECORD) as u64;
         h.put_stated(read(&bytes, start, line, need), out_len, count, &best);
     }
     // The ranking, both ways round.
@@ -146,6 +148,27 @@ fn all_rivals(h: &mut Harness, table: &Table, k: usize, line: &[u8]) {
     }
 }
 
+/// Wrong lengths and record numbers in the readings of lines of up to 3 bytes by
+/// all tables of up to so many records, and every other byte in those of tables
+/// of up to 3.
+pub fn wrong_bytes(h: &mut Harness, records: usize) {
+    let lines = all_lines(3);
+    for m in 1..=records {
+        all_tables(m, &mut |table| {
+            h.from("all readings of small tables, damaged");
+            for line in &lines {
+                for value in rivals(table, m - 1, line) {
+                    unfit::each_record(h, table, m - 1, &value);
+                    if m < 4 {
+                        unfit::each_byte(h, table, m - 1, &value);
+                        unfit::torn(h, table, m - 1, &value);
+                    }
+                }
+            }
+        });
+    }
+}
+
 /// Lines of every length up to 260, by a Star over a Range and over an Other,
 /// and of some lengths by T1.
 pub fn lengths(h: &mut Harness) {
@@ -155,14 +178,14 @@ pub fn lengths(h: &mut Harness) {
         let line = vec![0x61; n];
         for letter in [Letter::range(0x61, 0x61), Letter::other(0x62, 0x62)] {
             let many = star_nest(letter, 2, 0).bytes();
-            for out_len in [2 * n + 2, 2 * n + 1] {
+            for out_len in [4 * n + 4, 4 * n + 3] {
                 h.put(read(&many, 1, &line, need), out_len);
             }
-            h.put(read(&many, 1, &line, need - 1), 2 * n + 2);
+            h.put(read(&many, 1, &line, need - 1), 4 * n + 4);
         }
         if n % 17 == 0 {
             let line = b"abcab".repeat(n / 5);
-            h.put(read(T1, 9, &line, work_need(10, line.len())), 2000);
+            h.put(read(T1, 9, &line, work_need(10, line.len())), 4000);
         }
     }
 }
@@ -172,8 +195,10 @@ pub fn lengths(h: &mut Harness) {
 pub fn readings(h: &mut Harness, records: usize) {
     let mut words = Vec::new();
     for kind in 0..=6 {
-        for argument in [0, 1, 2, 0x61, 0x62] {
-            words.push([kind, argument]);
+        for argument in [0, 1, 0x61, 0x62] {
+            for length in 0..=2 {
+                words.extend((0..=2).map(|number| [kind, argument, length, number]));
+            }
         }
     }
     for m in 1..=records {
@@ -183,9 +208,15 @@ pub fn readings(h: &mut Harness, records: usize) {
             h.put(spell(&bytes, start, &[]), 2);
             for one in &words {
                 h.put(spell(&bytes, start, one), 2);
-                h.put(tokens(&bytes, start, &one[..1]), 2);
+                for cut in 1..RECORD {
+                    h.put(tokens(&bytes, start, &one[..cut]), 2);
+                }
+                // With another number, or kind, the first record alone is enough.
+                if u64::from(one[3]) != start || !(2..=5).contains(&one[0]) {
+                    continue;
+                }
                 for two in &words {
-                    let reading = [one[0], one[1], two[0], two[1]];
+                    let reading = [&one[..], &two[..]].concat();
                     h.put(spell(&bytes, start, &reading), 2);
                     h.put(compare(&bytes, start, &reading, one), 0);
                 }

@@ -4,6 +4,7 @@
 use referee::bench::Request;
 use referee::calls::{self, Reader};
 use referee::pairs::Pair;
+use referee::value::RECORD;
 
 extern "C" {
     fn trace_check(table: *const u8, table_len: usize) -> u64;
@@ -163,7 +164,7 @@ pub fn answer(reader: &mut Reader, case: &Case) -> (u64, Vec<u8>) {
     let (number, mut out) = expected(reader, case, Lending::Guarded);
     let width = match &case.request {
         Request::Check { .. } | Request::Compare { .. } | Request::Order { .. } => 0,
-        Request::Read { .. } => 2,
+        Request::Read { .. } => RECORD,
         Request::Spell { .. } => 1,
         Request::Tokens { .. } => 3,
         Request::Compile { .. } => 4,

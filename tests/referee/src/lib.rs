@@ -1,5 +1,5 @@
-//! A second implementation of document 01, with asks 1 to 3 and 5 of document
-//! 02, written from their text.
+//! A second implementation of document 01, with asks 1 to 3, 5 and 6 of
+//! document 02, written from their text.
 //!
 //! Read is done twice: by derivatives with injection (`posix`) and by the
 //! rules of the relation with an automaton for the languages (`relation`).
@@ -18,3 +18,4 @@ pub mod relation;
 pub mod rivals;
 pub mod table;
 pub mod value;
+pub mod wrong;

@@ -16,6 +16,7 @@ mod sampled;
 mod shrink;
 mod stack;
 mod texts;
+mod unfit;
 
 use ffi::Lending;
 use harness::Harness;
@@ -55,6 +56,8 @@ fn gate() -> bool {
     h.done("all tables of up to 4 records");
     exhaustive::readings(&mut h, 3);
     h.done("all readings of up to 2 records");
+    exhaustive::wrong_bytes(&mut h, 4);
+    h.done("wrong lengths and record numbers in the readings of small tables");
     exhaustive::lengths(&mut h);
     h.done("lines of every length");
     rounds(&mut h, TABLE, Size::Small, GATE_SEED, 4000);

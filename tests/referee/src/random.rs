@@ -4,7 +4,7 @@ use crate::notation::SPECIAL;
 use crate::pairs::{names, Pair};
 use crate::relation;
 use crate::table::{check, Kind, Letter, Record, Table};
-use crate::value::Value;
+use crate::value::{Value, RECORD};
 use std::rc::Rc;
 
 /// xorshift64*
@@ -454,8 +454,8 @@ pub fn damaged_table(rng: &mut Rng, table: &Table, number: u32) -> Vec<u8> {
     bytes
 }
 
-/// A reading with one byte changed, cut short, extended, or a count or a byte
-/// of the line off by one.
+/// A reading with one byte changed, cut short, extended, or a count, a length,
+/// a record number or a byte of the line off by one.
 pub fn damaged_reading(rng: &mut Rng, reading: &[u8]) -> Vec<u8> {
     let mut bytes = reading.to_vec();
     let len = bytes.len();
@@ -468,21 +468,26 @@ pub fn damaged_reading(rng: &mut Rng, reading: &[u8]) -> Vec<u8> {
             let place = rng.below(len);
             bytes[place] = rng.choose(&[0, 1, 2, 3, 4, 5, 6, 255, 0x61, 0x62]);
         }
-        3 if len > 0 => bytes.truncate(len - 1),
-        4 if len > 1 => bytes.truncate(len - 2),
+        3 if len > 0 => bytes.truncate(len - 1 - rng.below(RECORD.min(len))),
+        4 if len >= RECORD => bytes.truncate(len - RECORD),
         5 => bytes.truncate(rng.below(len + 1)),
         6 => {
-            let more = 1 + rng.below(4);
+            let more = 1 + rng.below(2 * RECORD);
             bytes.extend((0..more).map(|_| rng.below(6) as u8));
         }
-        7 if len > 1 => bytes.extend_from_within(len - 2..),
+        7 if len >= RECORD => bytes.extend_from_within(len - RECORD..),
+        8 if len >= RECORD => {
+            let at = RECORD * rng.below(len / RECORD) + 2 + rng.below(2);
+            bytes[at] = bytes[at].wrapping_add(rng.choose(&[1, 255, 128]));
+        }
         _ => {
-            let kind = rng.choose(&[1, 5]);
-            let places: Vec<usize> = (0..len / 2).filter(|i| bytes[2 * i] == kind).collect();
+            let kind = rng.choose(&[1, 1, 5]);
+            let records = 0..len / RECORD;
+            let places: Vec<usize> = records.filter(|i| bytes[RECORD * i] == kind).collect();
             if places.is_empty() {
-                bytes.extend([0, 0]);
+                bytes.extend([0; RECORD]);
             } else {
-                let at = 2 * rng.choose(&places) + 1;
+                let at = RECORD * rng.choose(&places) + 1;
                 bytes[at] = bytes[at].wrapping_add(rng.choose(&[1, 255]));
             }
         }

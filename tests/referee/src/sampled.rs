@@ -1,6 +1,7 @@
 //! Random cases from a seed.
 
 use crate::harness::{check, compare, read, spell, tokens, Harness};
+use crate::unfit;
 use referee::bench::Request;
 use referee::calls::work_need;
 use referee::random::{
@@ -8,7 +9,7 @@ use referee::random::{
     Room,
 };
 use referee::table::{Kind, Letter, Record, Table};
-use referee::value::Value;
+use referee::value::{fit, Value, RECORD};
 
 #[derive(Clone, Copy, PartialEq, Debug)]
 pub enum Size {
@@ -129,17 +130,17 @@ pub fn round(h: &mut Harness, rng: &mut Rng, size: Size) {
         if !readings.is_empty() {
             for _ in 0..2 {
                 let other = rival(rng, &table, k, &line).expect("a rival");
-                readings.push(other.reading());
+                readings.push(other.reading(&table, k));
             }
         }
     }
-    readings.extend(value.map(|v| v.reading()));
-    readings.extend(grown(rng, &table, k, size).map(|v| v.reading()));
+    readings.extend(value.map(|v| v.reading(&table, k)));
+    readings.extend(grown(rng, &table, k, size).map(|v| v.reading(&table, k)));
     if rng.once_in(8) {
-        readings.extend(eager(rng, &table, k).map(|v| v.reading()));
+        readings.extend(eager(rng, &table, k).map(|v| v.reading(&table, k)));
     }
     if readings.is_empty() {
-        readings.push(vec![5, 0]);
+        readings.push(vec![5, 0, 0, k as u8]);
     }
     for reading in &readings {
         walks(h, rng, &bytes, start, reading);
@@ -147,6 +148,15 @@ pub fn round(h: &mut Harness, rng: &mut Rng, size: Size) {
     for one in &readings {
         for two in &readings {
             h.put(compare(&bytes, start, one, two), 0);
+        }
+    }
+    // Wrong lengths and record numbers in those that fit.
+    for reading in &readings {
+        if let Some(value) = fit(&table, k, reading) {
+            unfit::some_records(h, rng, &table, k, &value, 3);
+            if reading.len() <= 10 * RECORD && rng.once_in(200) {
+                unfit::each_byte(h, &table, k, &value);
+            }
         }
     }
     let damages = if size == Size::Long { 6 } else { 12 };
@@ -176,7 +186,7 @@ fn reads(h: &mut Harness, rng: &mut Rng, table: &Table, k: usize, line: &[u8], s
     let need = work_need(table.records.len(), line.len());
     let cheap = |work: usize| work < need || line.len() > 255;
     let answer =
-        if line.len() <= 255 { h.reader.reading(table, k, line).map_or(4, |v| v.len()) } else { 4 };
+        if line.len() <= 255 { h.reader.reading(table, k, line).map_or(8, |v| v.len()) } else { 8 };
     let works = [need, need - 1, need / 2, 0, need + 5];
     let outs = [answer, answer - 1, answer + 9, answer - 2, answer / 2, 0];
     let mut spent = 0;

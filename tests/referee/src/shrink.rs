@@ -9,6 +9,7 @@ use referee::random::{all_lines, all_tables};
 use referee::rivals::rivals;
 use referee::table::{check, Kind, Letter, Record, Table};
 use referee::value::{fit, Value};
+use referee::wrong::Places;
 use std::rc::Rc;
 use std::time::{Duration, Instant};
 
@@ -70,7 +71,7 @@ fn search(case: &Case, fails: &mut dyn FnMut(&Case) -> bool) -> Option<Case> {
 fn small_requests(case: &Case, table: &Table, line: &[u8]) -> Vec<Request> {
     let k = table.records.len() - 1;
     let (bytes, start) = (table.bytes(), k as u64);
-    let all: Vec<Vec<u8>> = rivals(table, k, line).iter().map(|v| v.reading()).collect();
+    let all = small_readings(table, k, line);
     match &case.request {
         Request::Check { .. } | Request::Compile { .. } | Request::Order { .. } => vec![],
         Request::Read { .. } => {
@@ -86,6 +87,19 @@ fn small_requests(case: &Case, table: &Table, line: &[u8]) -> Vec<Request> {
             pairs
         }
     }
+}
+
+/// Every rival's reading, each with one wrong length or record number behind it.
+fn small_readings(table: &Table, k: usize, line: &[u8]) -> Vec<Vec<u8>> {
+    let mut all = Vec::new();
+    for value in rivals(table, k, line) {
+        let places = Places::new(table, k, &value);
+        all.push(places.reading.clone());
+        for i in 0..places.records() {
+            all.extend(places.bytes(i).into_iter().map(|change| change.made(&places.reading)));
+        }
+    }
+    all
 }
 
 fn weight(case: &Case) -> (usize, usize, usize, usize) {
@@ -256,8 +270,6 @@ fn in_step(table: &Table, case: &Case, start: u64, lists: &[Vec<u8>], all: &mut 
     };
     let values: Option<Vec<Value>> = lists.iter().map(|v| fit(table, k, v)).collect();
     let Some(values) = values else { return };
-    let write =
-        |values: Vec<Rc<Value>>| -> Vec<Vec<u8>> { values.iter().map(|v| v.reading()).collect() };
     for (number, child) in table.kind(k).children().into_iter().enumerate() {
         for iteration in 0..3 {
             let inner = |v: &Value| match v {
@@ -269,21 +281,22 @@ fn in_step(table: &Table, case: &Case, start: u64, lists: &[Vec<u8>], all: &mut 
             };
             let inside: Option<Vec<Rc<Value>>> = values.iter().map(inner).collect();
             if let Some(inside) = inside {
-                all.push(with(case, table.bytes(), child as u64, write(inside)));
+                let lists = inside.iter().map(|v| v.reading(table, child)).collect();
+                all.push(with(case, table.bytes(), child as u64, lists));
             }
         }
     }
     for which in 0..values.len() {
         for shorter in one_iteration_less(&values[which]) {
             let mut changed = lists.to_vec();
-            changed[which] = shorter.reading();
+            changed[which] = shorter.reading(table, k);
             all.push(with(case, table.bytes(), start, changed));
         }
     }
     if values.len() == 2 {
         for one in one_iteration_less(&values[0]) {
             for two in one_iteration_less(&values[1]).iter().take(20) {
-                let lists = vec![one.reading(), two.reading()];
+                let lists = vec![one.reading(table, k), two.reading(table, k)];
                 all.push(with(case, table.bytes(), start, lists));
             }
         }

@@ -17,13 +17,26 @@ const LEVELS: usize = 254;
 /// The letters of the tables here. Both hold the byte 0x61 and not 0x60.
 const LETTERS: [Letter; 2] = [Letter::range(0x61, 0x61), Letter::other(0x60, 0x60)];
 
+/// The byte a of record k, in a reading.
+const fn byte(k: u8) -> [u8; 4] {
+    [1, 0x61, 1, k]
+}
+
+/// How a length over 255 is written: modulo 256, or as 255.
+type Written = fn(usize) -> u8;
+const MODULO: Written = |length| (length % 256) as u8;
+const CAPPED: Written = |length| length.min(255) as u8;
+
 /// The reading of so many nested Stars with the given counts (level from the
-/// bottom, count); every other level has one iteration.
-fn nest(levels: usize, counts: &[(usize, u8)]) -> Vec<u8> {
-    let mut reading = vec![1, 0x61];
+/// bottom, count); every other level has one iteration. The record of a level
+/// has its number, the letter 0.
+fn nest(levels: usize, counts: &[(usize, u8)], written: Written) -> Vec<u8> {
+    let mut reading = byte(0).to_vec();
+    let mut length = 1;
     for level in 1..=levels {
         let count = counts.iter().find(|c| c.0 == level).map_or(1, |c| c.1);
-        let mut next = vec![5, count];
+        length *= usize::from(count);
+        let mut next = vec![5, count, written(length), level as u8];
         for _ in 0..count {
             next.extend_from_slice(&reading);
         }
@@ -34,23 +47,23 @@ fn nest(levels: usize, counts: &[(usize, u8)]) -> Vec<u8> {
 
 /// One iteration at each of the levels.
 fn chain(levels: usize) -> Vec<u8> {
-    let mut reading = [5, 1].repeat(levels);
-    reading.extend([1, 0x61]);
-    reading
+    let stars = (1..=levels as u8).rev().flat_map(|level| [5, 1, 1, level]);
+    stars.chain(byte(0)).collect()
 }
 
 /// The same count at every level: one iteration of each, the last or the
 /// first, holds the levels below, and the others are chains.
-fn spine(levels: usize, count: u8, last: bool) -> Vec<u8> {
-    let others = |level: usize| chain(level - 1).repeat(usize::from(count) - 1);
+fn spine(levels: usize, count: u8, last: bool, written: Written) -> Vec<u8> {
+    let more = usize::from(count) - 1;
+    let others = |level: usize| chain(level - 1).repeat(more);
     let mut reading = Vec::new();
     for level in (1..=levels).rev() {
-        reading.extend([5, count]);
+        reading.extend([5, count, written(1 + level * more), level as u8]);
         if last {
             reading.extend(others(level));
         }
     }
-    reading.extend([1, 0x61]);
+    reading.extend(byte(0));
     if !last {
         (1..=levels).for_each(|level| reading.extend(others(level)));
     }
@@ -72,27 +85,43 @@ fn walks(h: &mut Harness, table: &[u8], reading: &[u8], line: &[u8], listed: &[u
     h.put_known(compare(table, start, reading, reading), 0, 0, &[]);
 }
 
-/// Spell, Tokens and Compare of a reading that they refuse.
-fn refused(h: &mut Harness, table: &[u8], reading: &[u8], good: &[u8], number: u64) {
+/// Spell, Tokens and Compare of a reading that doesn't fit.
+fn refused(h: &mut Harness, table: &[u8], reading: &[u8], good: &[u8]) {
     let start = table.len() as u64 / 4 - 1;
     let mut put = |request, answer| h.put_known(request, 300, answer, &[]);
-    put(spell(table, start, reading), refusal(number));
-    put(tokens(table, start, reading), refusal(number));
-    put(compare(table, start, reading, good), refusal(number));
-    put(compare(table, start, good, reading), refusal(number) + 1);
+    put(spell(table, start, reading), refusal(12));
+    put(tokens(table, start, reading), refusal(12));
+    put(compare(table, start, reading, good), refusal(12));
+    put(compare(table, start, good, reading), refusal(12) + 1);
 }
 
-/// A reading that fits and spells over 255 bytes: as it is, with its last byte
+/// A reading that spells over 255 bytes: as it is, with its last record
 /// damaged, cut by one byte, and with one byte over.
 fn too_long(h: &mut Harness, table: &[u8], mut reading: Vec<u8>, good: &[u8]) {
-    refused(h, table, &reading, good, 13);
+    refused(h, table, &reading, good);
     let last = reading.len() - 1;
     reading[last] ^= 1;
-    refused(h, table, &reading, good, 12);
+    refused(h, table, &reading, good);
     reading[last] ^= 1;
-    refused(h, table, &reading[..last], good, 12);
+    refused(h, table, &reading[..last], good);
     reading.push(0);
-    refused(h, table, &reading, good, 12);
+    refused(h, table, &reading, good);
+}
+
+/// A reading that fits, with wrong lengths and record numbers in its first and
+/// last records, and in some between.
+fn wrong_bytes(h: &mut Harness, table: &[u8], reading: &[u8]) {
+    let records = reading.len() / 4;
+    let mut bad = reading.to_vec();
+    for i in [0, 1, records / 2, records - 2, records - 1] {
+        for at in [4 * i + 2, 4 * i + 3] {
+            for byte in [1, 127, 128, 255].map(|more| reading[at].wrapping_add(more)) {
+                bad[at] = byte;
+                refused(h, table, &bad, reading);
+            }
+            bad[at] = reading[at];
+        }
+    }
 }
 
 fn stars(h: &mut Harness) {
@@ -108,21 +137,25 @@ fn stars(h: &mut Harness) {
     let thin = chain(LEVELS);
     walks(h, &plain, &thin, b"a", &[]);
     h.from("254 Stars, 255 iterations at the bottom");
-    let low = nest(LEVELS, &[(1, 255)]);
+    let low = nest(LEVELS, &[(1, 255)], MODULO);
     walks(h, &tagged, &low, &line, &listed);
     h.from("254 Stars, 255 iterations on top");
-    let high = nest(LEVELS, &[(254, 255)]);
-    assert_eq!(high.len() / 2, 1 + 255 * 254);
+    let high = nest(LEVELS, &[(254, 255)], MODULO);
+    assert_eq!(high.len() / 4, 1 + 255 * 254);
     walks(h, &tagged, &high, &line, &listed);
     h.from("254 Stars, 2 iterations each, the last one deep");
-    let late = spine(LEVELS, 2, true);
+    let late = spine(LEVELS, 2, true, MODULO);
     walks(h, &tagged, &late, &line, &listed);
     h.from("254 Stars, 2 iterations each, the first one deep");
-    let early = spine(LEVELS, 2, false);
+    let early = spine(LEVELS, 2, false, MODULO);
     walks(h, &tagged, &early, &line, &listed);
+    h.from("254 Stars, wrong lengths and record numbers");
+    for reading in [&thin, &low, &high, &late, &early] {
+        wrong_bytes(h, &tagged, reading);
+    }
 
     h.from("Read by 254 Stars");
-    let count = low.len() as u64 / 2;
+    let count = low.len() as u64 / 4;
     let need = work_need(LEVELS + 1, 255);
     let short = refusal(11) + low.len() as u64;
     for table in [&plain, &tagged] {
@@ -133,13 +166,15 @@ fn stars(h: &mut Harness) {
     // At the end of the spine, three iterations of one byte in place of one
     // of one byte and one of two.
     let mut flat = late.clone();
-    let end = flat.split_off(late.len() - 12);
-    assert_eq!(end, [5, 2, 5, 1, 1, 0x61, 5, 2, 1, 0x61, 1, 0x61]);
-    flat.extend([5, 3, 5, 1, 1, 0x61, 5, 1, 1, 0x61, 5, 1, 1, 0x61]);
+    let end = flat.split_off(late.len() - 24);
+    let one = [5, 1, 1, 1, 1, 0x61, 1, 0];
+    assert_eq!(end[..12], [&[5, 2, 3, 2][..], &one].concat());
+    assert_eq!(end[12..], [5, 2, 2, 1, 1, 0x61, 1, 0, 1, 0x61, 1, 0]);
+    flat.extend([&[5, 3, 3, 2], &one.repeat(3)[..]].concat());
     // On top, a last iteration of two bytes in place of two of one byte.
-    let mut joined = vec![5, 254];
+    let mut joined = vec![5, 254, 255, 254];
     joined.extend(chain(LEVELS - 1).repeat(253));
-    joined.extend(nest(LEVELS - 1, &[(1, 2)]));
+    joined.extend(nest(LEVELS - 1, &[(1, 2)], MODULO));
     h.from("Compare in 254 Stars");
     for (ahead, behind) in [
         (&low, &high),
@@ -155,20 +190,23 @@ fn stars(h: &mut Harness) {
     h.put_known(compare(&plain, start, &thin, &high), 0, refusal(14), &[]);
 }
 
-/// Readings of over 10 MB, over both letters by turns.
+/// Readings of over 16 MB, over both letters by turns, with the lengths that
+/// can't be written modulo 256, and as 255.
 fn millions(h: &mut Harness) {
     let tables = LETTERS.map(|letter| star_nest(letter, LEVELS + 1, 0).bytes());
-    let good = nest(LEVELS, &[(254, 255)]);
-    let readings = [
-        ("wide on top", nest(LEVELS, &[(254, 255), (253, 80)])),
-        ("wide at the bottom", nest(LEVELS, &[(3, 80), (2, 255), (1, 255)])),
-        ("255 iterations each, the last one deep", spine(LEVELS, 255, true)),
-        ("255 iterations each, the first one deep", spine(LEVELS, 255, false)),
-    ];
-    for ((name, reading), table) in readings.into_iter().zip(tables.iter().cycle()) {
-        assert!(reading.len() > 10_000_000);
-        h.from(format!("254 Stars, {name}"));
-        too_long(h, table, reading, &good);
+    let good = nest(LEVELS, &[(254, 255)], MODULO);
+    for written in [MODULO, CAPPED] {
+        let readings = [
+            ("wide on top", nest(LEVELS, &[(254, 255), (253, 80)], written)),
+            ("wide at the bottom", nest(LEVELS, &[(3, 80), (2, 255), (1, 255)], written)),
+            ("255 iterations each, the last one deep", spine(LEVELS, 255, true, written)),
+            ("255 iterations each, the first one deep", spine(LEVELS, 255, false, written)),
+        ];
+        for ((name, reading), table) in readings.into_iter().zip(tables.iter().cycle()) {
+            assert!(reading.len() > 16_000_000);
+            h.from(format!("254 Stars, {name}"));
+            too_long(h, table, reading, &good);
+        }
     }
 }
 
@@ -190,31 +228,37 @@ fn all_calls(h: &mut Harness, table: &Table, reading: &[u8], line: &[u8], listed
     let m = table.records.len();
     walks(h, &bytes, reading, line, listed);
     let request = read(&bytes, m as u64 - 1, line, work_need(m, line.len()));
-    h.put_known(request, reading.len(), reading.len() as u64 / 2, reading);
+    h.put_known(request, reading.len(), reading.len() as u64 / 4, reading);
+    let last = reading.chunks(4).rposition(|record| record[0] == 1).expect("a byte");
     let mut bad = reading.to_vec();
-    *bad.last_mut().expect("a byte") = 0x60;
-    refused(h, &bytes, &bad, reading, 12);
+    bad[4 * last + 1] = 0x60;
+    refused(h, &bytes, &bad, reading);
+    wrong_bytes(h, &bytes, reading);
+}
+
+/// The numbers of a comb's joining records, the root's first, each with the
+/// bytes below it where they are Seq.
+fn joining() -> impl Iterator<Item = (u8, u8)> {
+    (1..=127).rev().map(|below| (2 * below, below + 1))
 }
 
 fn combs(h: &mut Harness) {
     h.from("127 Seq to the left");
-    let mut reading = [4, 0].repeat(127);
-    reading.extend([1, 0x61].repeat(128));
+    let mut reading: Vec<u8> = joining().flat_map(|(k, n)| [4, 0, n, k]).chain(byte(0)).collect();
+    (0..127).for_each(|i| reading.extend(byte(2 * i + 1)));
     all_calls(h, &comb(true, true), &reading, &[0x61; 128], &[]);
     h.from("127 Seq to the right");
-    let mut reading = [4, 0, 1, 0x61].repeat(127);
-    reading.extend([1, 0x61]);
+    let each = |(k, n)| [[4, 0, n, k], byte(k - 1)].concat();
+    let reading: Vec<u8> = joining().flat_map(each).chain(byte(0)).collect();
     all_calls(h, &comb(true, false), &reading, &[0x61; 128], &[]);
     h.from("127 Or to the left");
-    let mut deep = [2, 0].repeat(127);
-    deep.extend([1, 0x61]);
+    let deep: Vec<u8> = joining().flat_map(|(k, _)| [2, 0, 1, k]).chain(byte(0)).collect();
     all_calls(h, &comb(false, true), &deep, b"a", &[]);
     h.from("127 Or to the right");
-    let near = [2, 0, 1, 0x61];
+    let near = [[2, 0, 1, 254], byte(253)].concat();
     all_calls(h, &comb(false, false), &near, b"a", &[]);
     let table = comb(false, false).bytes();
-    let mut far = [3, 0].repeat(127);
-    far.extend([1, 0x61]);
+    let far: Vec<u8> = joining().flat_map(|(k, _)| [3, 0, 1, k]).chain(byte(0)).collect();
     walks(h, &table, &far, b"a", &[]);
     h.put_known(compare(&table, 254, &far, &near), 0, 2, &[]);
 }
@@ -232,10 +276,10 @@ fn beside_empties(tag: u8) -> Table {
 
 fn empties(h: &mut Harness) {
     let line = [0x61; 255];
-    let mut one = [4, 0].repeat(126);
-    one.extend([1, 0x61]);
-    one.extend([0, 0].repeat(126));
-    let mut reading = vec![5, 255];
+    let mut one: Vec<u8> = (1..=126).rev().flat_map(|i| [4, 0, 1, 2 * i]).collect();
+    one.extend(byte(0));
+    (0..126).for_each(|i| one.extend([0, 0, 0, 2 * i + 1]));
+    let mut reading = vec![5, 255, 255, 253];
     reading.extend(one.repeat(255));
     h.from("126 tagged Empties beside a tagged byte, 255 times over");
     let table = beside_empties(9);
@@ -336,7 +380,7 @@ pub fn run() {
     type Part = fn(&mut Harness);
     let parts: [(&str, Part); 6] = [
         ("stack of 1 MiB, nests of Stars", stars),
-        ("stack of 1 MiB, readings of over 10 MB", millions),
+        ("stack of 1 MiB, readings of over 16 MB", millions),
         ("stack of 1 MiB, combs of Or and Seq", combs),
         ("stack of 1 MiB, empty tagged parts", empties),
         ("stack of 1 MiB, texts of up to 4,097 bytes", parentheses),

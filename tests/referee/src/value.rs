@@ -45,38 +45,41 @@ impl Value {
         }
     }
 
-    /// The reading: parent first, two bytes for each record.
-    pub fn write(&self, out: &mut Vec<u8>) {
+    fn kind_and_argument(&self) -> (u8, u8) {
         match self {
-            Value::Void => out.extend([0, 0]),
-            Value::Byte(c) => out.extend([1, *c]),
-            Value::Left(v) => {
-                out.extend([2, 0]);
-                v.write(out);
-            }
-            Value::Right(v) => {
-                out.extend([3, 0]);
-                v.write(out);
-            }
-            Value::Seq(v1, v2) => {
-                out.extend([4, 0]);
-                v1.write(out);
-                v2.write(out);
-            }
-            Value::Stars(vs) => {
-                let count = u8::try_from(vs.len()).expect("a count is at most 255");
-                out.extend([5, count]);
-                vs.iter().for_each(|v| v.write(out));
-            }
+            Value::Void => (0, 0),
+            Value::Byte(c) => (1, *c),
+            Value::Left(_) => (2, 0),
+            Value::Right(_) => (3, 0),
+            Value::Seq(..) => (4, 0),
+            Value::Stars(vs) => (5, u8::try_from(vs.len()).expect("a count is at most 255")),
         }
     }
 
-    pub fn reading(&self) -> Vec<u8> {
+    /// Writes the reading by record k, parent first; gives the length spelled.
+    fn write(&self, table: &Table, k: usize, out: &mut Vec<u8>) -> usize {
+        let at = out.len();
+        let (kind, argument) = self.kind_and_argument();
+        out.extend([kind, argument, 0, k as u8]);
+        let own = usize::from(matches!(self, Value::Byte(_)));
+        let parts = self.parts(table.kind(k)).into_iter();
+        let length = parts.fold(own, |sum, (r, part)| sum + part.write(table, r, out));
+        out[at + 2] = (length % 256) as u8;
+        length
+    }
+
+    /// The reading by record k. A length over 255 can't be written: it stands
+    /// there modulo 256, and the bytes fit no record.
+    pub fn reading(&self, table: &Table, k: usize) -> Vec<u8> {
         let mut out = Vec::new();
-        self.write(&mut out);
+        self.write(table, k, &mut out);
         out
     }
 }
+
+/// The bytes of a reading's record: kind, argument, bytes spelled, table
+/// record number.
+pub const RECORD: usize = 4;
 
 /// The value a byte sequence is a reading of, if it fits record k.
 pub fn fit(table: &Table, k: usize, bytes: &[u8]) -> Option<Value> {
@@ -86,22 +89,22 @@ pub fn fit(table: &Table, k: usize, bytes: &[u8]) -> Option<Value> {
 
 /// One element at the front: its value, the length it spells, the bytes after it.
 fn element<'a>(table: &Table, k: usize, bytes: &'a [u8]) -> Option<(Value, usize, &'a [u8])> {
-    let (&[kind, argument], rest) = bytes.split_first_chunk::<2>()?;
-    match (table.kind(k), kind, argument) {
-        (Kind::Empty, 0, 0) => Some((Value::Void, 0, rest)),
-        (Kind::Letter(letter), 1, c) if letter.holds(c) => Some((Value::Byte(c), 1, rest)),
+    let (&[kind, argument, length, number], rest) = bytes.split_first_chunk::<RECORD>()?;
+    let (value, spelled, rest) = match (table.kind(k), kind, argument) {
+        (Kind::Empty, 0, 0) => (Value::Void, 0, rest),
+        (Kind::Letter(letter), 1, c) if letter.holds(c) => (Value::Byte(c), 1, rest),
         (Kind::Or(r1, _), 2, 0) => {
             let (v, n, rest) = element(table, r1, rest)?;
-            Some((Value::Left(Rc::new(v)), n, rest))
+            (Value::Left(Rc::new(v)), n, rest)
         }
         (Kind::Or(_, r2), 3, 0) => {
             let (v, n, rest) = element(table, r2, rest)?;
-            Some((Value::Right(Rc::new(v)), n, rest))
+            (Value::Right(Rc::new(v)), n, rest)
         }
         (Kind::Seq(r1, r2), 4, 0) => {
             let (v1, n1, rest) = element(table, r1, rest)?;
             let (v2, n2, rest) = element(table, r2, rest)?;
-            Some((Value::Seq(Rc::new(v1), Rc::new(v2)), n1 + n2, rest))
+            (Value::Seq(Rc::new(v1), Rc::new(v2)), n1 + n2, rest)
         }
         (Kind::Star(r), 5, count) => {
             let (mut vs, mut total, mut rest) = (Vec::new(), 0, rest);
@@ -114,8 +117,10 @@ fn element<'a>(table: &Table, k: usize, bytes: &'a [u8]) -> Option<(Value, usize
                 total += n;
                 rest = after;
             }
-            Some((Value::Stars(vs), total, rest))
+            (Value::Stars(vs), total, rest)
         }
-        _ => None,
-    }
+        _ => return None,
+    };
+    let true_ones = usize::from(length) == spelled && usize::from(number) == k;
+    true_ones.then_some((value, spelled, rest))
 }

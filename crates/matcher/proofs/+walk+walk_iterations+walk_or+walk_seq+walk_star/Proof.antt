@@ -8,7 +8,7 @@ use Rattle.table.specs.Records.{kindAt}
 use Rattle.table.proofs.Passing.{letter-at, kind-nothing}
 use Rattle.matcher.proofs.Positions.{record-there, not-nothing, row-told, or-a, or-b, seq-a, seq-b, seq-searched, star-a, star-searched}
 use Rattle.matcher.proofs.Storing.{stored-length}
-use Rattle.matcher.proofs.Walking.{headed-room, headed-given, headed-walked, left-headed, right-headed, star-headed, seq-room, seq-first, seq-second, seq-walked}
+use Rattle.matcher.proofs.Walking.{bytes-here, headed-room, headed-given, headed-walked, left-headed, right-headed, star-headed, seq-room, seq-first, seq-second, seq-walked}
 use Rattle.matcher.proofs.Iterating.{Iterating, count-small, iterating-none, iterating-first, iterating-more, iterating-end}
 use Prim.Native.Nat.{ℕ, _+_, _*_, _<_}
 use borrow.Fn.Kinds.{In}
@@ -283,7 +283,7 @@ walk-or-tell-requires t c κs =
     (row-told (given .0 .here) _ (omega (arith, or-a (given .0 .here) (c .before .a-at .ensures) (c .b-at .ensures) (given .1), given .0 .here .record-inside)) (given .0 .area), omega (arith, given .0 .here .size))
 
 walk-or-put-requires : (t : ℕ) → walk-or-lts.Need-put-requires (walk-or-claims t) (walk-or-at t) walk-or.Post
-walk-or-put-requires t c κs = headed-room (left-headed (c .before .before .before .before .before .before .before .before .before .pre .1 .0 .here) (c .before .before .before .before .a-at .ensures) (c .before .before .before .b-at .ensures) (c .before .before .before .before .before .before .before .before .before .pre .1 .1) (c .before .before .tell .ensures) (c .before .if1 .taken)) (c .before .before .before .before .before .before .before .before .before .pre .1 .0)
+walk-or-put-requires t c κs = (headed-room (left-headed (c .before .before .before .before .before .before .before .before .before .pre .1 .0 .here) (c .before .before .before .before .a-at .ensures) (c .before .before .before .b-at .ensures) (c .before .before .before .before .before .before .before .before .before .pre .1 .1) (c .before .before .tell .ensures) (c .before .if1 .taken)) (c .before .before .before .before .before .before .before .before .before .pre .1 .0), bytes-here (c .before .before .before .before .before .before .before .before .before .pre .1 .0 .here))
 
 walk-or-walk-requires : (t : ℕ) → walk-or-lts.Need-walk-requires (walk-or-claims t) (walk-or-at t) walk-or.Post
 walk-or-walk-requires t c κs = (omega (arith, c .before .before .before .before .before .before .before .before .before .before .before .before .before .pre .0, or-a (c .before .before .before .before .before .before .before .before .before .before .before .before .before .pre .1 .0 .here) (c .before .before .before .before .before .before .before .before .a-at .ensures) (c .before .before .before .before .before .before .before .b-at .ensures) (c .before .before .before .before .before .before .before .before .before .before .before .before .before .pre .1 .1)), headed-given (left-headed (c .before .before .before .before .before .before .before .before .before .before .before .before .before .pre .1 .0 .here) (c .before .before .before .before .before .before .before .before .a-at .ensures) (c .before .before .before .before .before .before .before .b-at .ensures) (c .before .before .before .before .before .before .before .before .before .before .before .before .before .pre .1 .1) (c .before .before .before .before .before .before .tell .ensures) (c .before .before .before .before .before .if1 .taken)) (c .before .before .before .before .before .before .before .before .before .before .before .before .before .pre .1 .0) (c .before .before .before .put .ensures))
@@ -295,7 +295,7 @@ walk-or-returns : (t : ℕ) → walk-or-lts.Need-returns (walk-or-claims t) (wal
 walk-or-returns t c = headed-walked (left-headed (c .before .before .before .before .before .before .before .before .before .before .before .before .before .before .before .before .pre .1 .0 .here) (c .before .before .before .before .before .before .before .before .before .before .before .a-at .ensures) (c .before .before .before .before .before .before .before .before .before .before .b-at .ensures) (c .before .before .before .before .before .before .before .before .before .before .before .before .before .before .before .before .pre .1 .1) (c .before .before .before .before .before .before .before .before .before .tell .ensures) (c .before .before .before .before .before .before .before .before .if1 .taken)) (c .before .before .before .before .before .before .put .ensures) (c .before .before .walk .ensures)
 
 walk-or-put-requires-2 : (t : ℕ) → walk-or-lts.Need-put-requires-2 (walk-or-claims t) (walk-or-at t) walk-or.Post
-walk-or-put-requires-2 t c κs = headed-room (right-headed (c .before .before .before .before .before .before .before .before .before .pre .1 .0 .here) (c .before .before .before .before .a-at .ensures) (c .before .before .before .b-at .ensures) (c .before .before .before .before .before .before .before .before .before .pre .1 .1) (c .before .before .tell .ensures) (c .before .if1 .left)) (c .before .before .before .before .before .before .before .before .before .pre .1 .0)
+walk-or-put-requires-2 t c κs = (headed-room (right-headed (c .before .before .before .before .before .before .before .before .before .pre .1 .0 .here) (c .before .before .before .before .a-at .ensures) (c .before .before .before .b-at .ensures) (c .before .before .before .before .before .before .before .before .before .pre .1 .1) (c .before .before .tell .ensures) (c .before .if1 .left)) (c .before .before .before .before .before .before .before .before .before .pre .1 .0), bytes-here (c .before .before .before .before .before .before .before .before .before .pre .1 .0 .here))
 
 walk-or-walk-requires-2 : (t : ℕ) → walk-or-lts.Need-walk-requires-2 (walk-or-claims t) (walk-or-at t) walk-or.Post
 walk-or-walk-requires-2 t c κs = (omega (arith, c .before .before .before .before .before .before .before .before .before .before .before .before .before .pre .0, or-b (c .before .before .before .before .before .before .before .before .before .before .before .before .before .pre .1 .0 .here) (c .before .before .before .before .before .before .before .before .a-at .ensures) (c .before .before .before .before .before .before .before .b-at .ensures) (c .before .before .before .before .before .before .before .before .before .before .before .before .before .pre .1 .1)), headed-given (right-headed (c .before .before .before .before .before .before .before .before .before .before .before .before .before .pre .1 .0 .here) (c .before .before .before .before .before .before .before .before .a-at .ensures) (c .before .before .before .before .before .before .before .b-at .ensures) (c .before .before .before .before .before .before .before .before .before .before .before .before .before .pre .1 .1) (c .before .before .before .before .before .before .tell .ensures) (c .before .before .before .before .before .if1 .left)) (c .before .before .before .before .before .before .before .before .before .before .before .before .before .pre .1 .0) (c .before .before .before .put2 .ensures))
@@ -322,7 +322,7 @@ walk-seq-longest-first-part-requires : (t : ℕ) → walk-seq-lts.Need-longest-f
 walk-seq-longest-first-part-requires t c κs = seq-searched (c .before .before .before .before .before .before .pre .1 .0 .here) (c .before .a-at .ensures) (c .b-at .ensures) (c .before .before .before .before .before .before .pre .1 .1) (c .before .before .before .before .before .before .pre .1 .0 .area)
 
 walk-seq-put-requires : (t : ℕ) → walk-seq-lts.Need-put-requires (walk-seq-claims t) (walk-seq-at t) walk-seq.Post
-walk-seq-put-requires t c κs = seq-room (c .before .before .before .before .before .before .before .before .pre .1 .0) (c .before .before .before .a-at .ensures) (c .before .before .b-at .ensures) (c .before .before .before .before .before .before .before .before .pre .1 .1) (c .before .longest-first-part .ensures)
+walk-seq-put-requires t c κs = (seq-room (c .before .before .before .before .before .before .before .before .pre .1 .0) (c .before .before .before .a-at .ensures) (c .before .before .b-at .ensures) (c .before .before .before .before .before .before .before .before .pre .1 .1) (c .before .longest-first-part .ensures), bytes-here (c .before .before .before .before .before .before .before .before .pre .1 .0 .here))
 
 walk-seq-walk-requires : (t : ℕ) → walk-seq-lts.Need-walk-requires (walk-seq-claims t) (walk-seq-at t) walk-seq.Post
 walk-seq-walk-requires t c κs = (omega (arith, c .before .before .before .before .before .before .before .before .before .before .before .before .pre .0, seq-a (c .before .before .before .before .before .before .before .before .before .before .before .before .pre .1 .0 .here) (c .before .before .before .before .before .before .before .a-at .ensures) (c .before .before .before .before .before .before .b-at .ensures) (c .before .before .before .before .before .before .before .before .before .before .before .before .pre .1 .1)), seq-first (c .before .before .before .before .before .before .before .before .before .before .before .before .pre .1 .0) (c .before .before .before .before .before .before .before .a-at .ensures) (c .before .before .before .before .before .before .b-at .ensures) (c .before .before .before .before .before .before .before .before .before .before .before .before .pre .1 .1) (c .before .before .before .before .before .longest-first-part .ensures) (c .before .before .before .put .ensures))
@@ -349,7 +349,7 @@ walk-star-cast-put : (t : ℕ) → walk-star-lts.Need-cast-put (walk-star-claims
 walk-star-cast-put t c = omega (arith, count-small (c .before .before .before .before .before .before .pre .1 .0 .here) (c .before .before .before .before .before .before .pre .1 .1) (c .before .count-iterations .ensures))
 
 walk-star-put-requires : (t : ℕ) → walk-star-lts.Need-put-requires (walk-star-claims t) (walk-star-at t) walk-star.Post
-walk-star-put-requires t c κs = headed-room (star-headed (c .before .before .before .before .before .before .pre .1 .0 .here) (c .before .before .before .before .before .before .pre .1 .1) (c .before .count-iterations .ensures)) (c .before .before .before .before .before .before .pre .1 .0)
+walk-star-put-requires t c κs = (headed-room (star-headed (c .before .before .before .before .before .before .pre .1 .0 .here) (c .before .before .before .before .before .before .pre .1 .1) (c .before .count-iterations .ensures)) (c .before .before .before .before .before .before .pre .1 .0), bytes-here (c .before .before .before .before .before .before .pre .1 .0 .here))
 
 walk-star-walk-iterations-requires : (t : ℕ) → walk-star-lts.Need-walk-iterations-requires (walk-star-claims t) (walk-star-at t) walk-star.Post
 walk-star-walk-iterations-requires t c κs = (omega (arith, c .before .before .before .before .before .before .before .before .before .before .pre .0), (headed-given (star-headed (c .before .before .before .before .before .before .before .before .before .before .pre .1 .0 .here) (c .before .before .before .before .before .before .before .before .before .before .pre .1 .1) (c .before .before .before .before .before .count-iterations .ensures)) (c .before .before .before .before .before .before .before .before .before .before .pre .1 .0) (c .before .before .before .put .ensures), c .before .before .before .before .before .before .before .before .before .before .pre .1 .1))

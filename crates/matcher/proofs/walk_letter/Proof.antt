@@ -1,7 +1,7 @@
 -- `matcher::walk_letter` meets its contract: a letter's part is one byte and reads as Byte.
 -- Assumes nothing.
 use native.Mathlib.Omega.{arith}
-use Rattle.matcher.proofs.Walking.{letter-one, letter-room, letter-walked}
+use Rattle.matcher.proofs.Walking.{bytes-here, letter-one, letter-room, letter-walked}
 use borrow.Author.Needs.{needs}
 use Rattle.matcher.proofs.walk_letter.Statement.{statement}
 use Rattle.matcher.proofs.walk_letter.Tie as tie
@@ -13,7 +13,7 @@ shared-slice-read-c : tie.Need-shared-slice-read-c
 shared-slice-read-c c = omega (arith, letter-one (c .before .before .before .before .before .pre .0 .here) (c .before .before .before .before .before .pre .1), c .before .before .before .before .before .pre .0 .here .size, c .before .before .before .before .before .pre .0 .here .left)
 
 put-requires : tie.Need-put-requires
-put-requires c κs = letter-room (c .before .before .before .before .before .before .pre .0) (c .before .before .before .before .before .before .pre .1)
+put-requires c κs = (letter-room (c .before .before .before .before .before .before .pre .0) (c .before .before .before .before .before .before .pre .1), bytes-here (c .before .before .before .before .before .before .pre .0 .here))
 
 same-length : tie.Need-same-length
 same-length c = search needs

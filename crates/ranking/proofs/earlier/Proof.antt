@@ -13,7 +13,9 @@ enum-known-verdict : tie.Need-enum-known-verdict
 enum-known-verdict c = search needs
 
 returns : tie.Need-returns
-returns c = ((λ e. refl), ((λ e. absurd (first-second (sym (chosen-first _ _ _ (c .before .before .before .before .compare .ensures .0) (c .before .before .verdict .given .1) (omega (arith, c .if1 .taken))) ∙ e))), λ e. absurd (first-neither (sym (chosen-first _ _ _ (c .before .before .before .before .compare .ensures .0) (c .before .before .verdict .given .1) (omega (arith, c .if1 .taken))) ∙ e))))
+returns c =
+    let a = chosen-first _ _ _ (c .before .before .before .before .compare .ensures .0) (c .before .before .verdict .given .1) (omega (arith, c .if1 .taken)) in
+    ((λ e. refl), ((λ e. absurd (first-second (sym a ∙ e))), λ e. absurd (first-neither (sym a ∙ e))))
 
 enum-told : tie.Need-enum-told
 enum-told c = search needs
@@ -22,10 +24,14 @@ slice-aggregate-result : tie.Need-slice-aggregate-result
 slice-aggregate-result c = search needs
 
 returns-2 : tie.Need-returns-2
-returns-2 c = ((λ e. absurd (first-second (sym e ∙ chosen-second _ _ _ (c .before .before .before .before .compare .ensures .0) (c .before .before .verdict .given .1) (omega (arith, c .if1 .left))))), ((λ e. refl), λ e. absurd (second-neither (sym (chosen-second _ _ _ (c .before .before .before .before .compare .ensures .0) (c .before .before .verdict .given .1) (omega (arith, c .if1 .left))) ∙ e))))
+returns-2 c =
+    let a = chosen-second _ _ _ (c .before .before .before .before .compare .ensures .0) (c .before .before .verdict .given .1) (omega (arith, c .if1 .left)) in
+    ((λ e. absurd (first-second (sym e ∙ a))), ((λ e. refl), λ e. absurd (second-neither (sym a ∙ e))))
 
 returns-3 : tie.Need-returns-3
-returns-3 c = ((λ e. absurd (first-neither (sym e ∙ chosen-neither _ _ _ (c .before .before .before .compare .ensures .0) (c .before .enum-told .given .1)))), ((λ e. absurd (second-neither (sym e ∙ chosen-neither _ _ _ (c .before .before .before .compare .ensures .0) (c .before .enum-told .given .1)))), λ e. (refl, refl)))
+returns-3 c =
+    let a = chosen-neither _ _ _ (c .before .before .before .compare .ensures .0) (c .before .enum-told .given .1) in
+    ((λ e. absurd (first-neither (sym e ∙ a))), ((λ e. absurd (second-neither (sym e ∙ a))), λ e. (refl, refl)))
 
 pub earlier-spec : {M : Type 1} → statement M
 earlier-spec =

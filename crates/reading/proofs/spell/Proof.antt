@@ -1,8 +1,8 @@
 -- `reading::spell` meets its contract: one law of Spelling for each way out. Assumes nothing.
-use borrow.Author.Needs.{needs}
 use Rattle.reading.proofs.Admission.{admitted, Admitted}
 use Rattle.reading.proofs.Wholes.{Reading, whole-reading, whole-missing}
-use Rattle.reading.proofs.Spelling.{spell-table, spell-misfit, spell-long, spell-buffer, spell-done, spell-room}
+use Rattle.reading.proofs.Spelling.{spell-table, spell-misfit, spell-buffer, spell-done, spell-room}
+use borrow.Author.Needs.{needs}
 use Rattle.reading.proofs.spell.Statement.{statement}
 use Rattle.reading.proofs.spell.Tie as tie
 
@@ -23,7 +23,7 @@ admission : (c : tie.After-enum-told)
 admission c = admitted _ _ _ _ (c .before .before .admit .ensures) (c .enum-told .given .1)
 
 fit-whole-requires : tie.Need-fit-whole-requires
-fit-whole-requires c κs = (admission c .passes, admission c .inside)
+fit-whole-requires c κs = (admission (c) .passes, admission (c) .inside)
 
 enum-known-size : tie.Need-enum-known-size
 enum-known-size c = search needs
@@ -33,13 +33,10 @@ whole : (c : tie.After-size)
 whole c = whole-reading _ _ _ _ _ (c .before .before .fit-whole .ensures) (c .size .given .1)
 
 returns-2 : tie.Need-returns-2
-returns-2 c = spell-long (c .before .before .before .before .before .before .before .before .before .before .before .args .out .now) (admission (c .before .before .before .before .before)) (whole (c .before .before)) (c .if1 .taken)
-
-returns-3 : tie.Need-returns-3
-returns-3 c = spell-buffer (c .before .before .before .before .before .before .before .before .before .before .before .before .args .out .now) (admission (c .before .before .before .before .before .before)) (whole (c .before .before .before)) (c .before .if1 .left) (c .if2 .taken)
+returns-2 c = spell-buffer (c .before .before .before .before .before .before .before .before .before .before .before .args .out .now) (admission (c .before .before .before .before .before)) (whole (c .before .before)) (c .if1 .taken)
 
 spell-into-requires : tie.Need-spell-into-requires
-spell-into-requires c κs = spell-room (c .before .before .before .before .before .before .before .before .before .before .before .before .before .args .out .now) (whole (c .before .before .before .before)) (c .before .if2 .left)
+spell-into-requires c κs = spell-room (c .before .before .before .before .before .before .before .before .before .before .before .before .args .out .now) (whole (c .before .before .before)) (c .before .if1 .left)
 
 enum-told-2 : tie.Need-enum-told-2
 enum-told-2 c = search needs
@@ -47,11 +44,11 @@ enum-told-2 c = search needs
 same-length : tie.Need-same-length
 same-length c = search needs
 
-returns-4 : tie.Need-returns-4
-returns-4 c = spell-done (c .before .before .before .before .before .before .before .before .before .before .before .before .before .before .before .before .args .out .now) (admission (c .before .before .before .before .before .before .before .before .before .before)) (whole (c .before .before .before .before .before .before .before)) (c .before .before .before .before .before .if1 .left) (c .before .before .before .before .if2 .left) (c .before .before .spell-into .ensures .0) (c .before .before .spell-into .ensures .1)
+returns-3 : tie.Need-returns-3
+returns-3 c = spell-done (c .before .before .before .before .before .before .before .before .before .before .before .before .before .before .before .args .out .now) (admission (c .before .before .before .before .before .before .before .before .before)) (whole (c .before .before .before .before .before .before)) (c .before .before .before .before .if1 .left) (c .before .before .spell-into .ensures .0) (c .before .before .spell-into .ensures .1)
 
-returns-5 : tie.Need-returns-5
-returns-5 c = spell-misfit (c .before .before .before .before .before .before .before .before .before .args .table .now) (c .before .before .before .before .before .before .before .before .before .args .start) (c .before .before .before .before .before .before .before .before .before .args .reading .now) (c .before .before .before .before .before .before .before .before .before .args .out .now) (admission (c .before .before .before)) (whole-missing _ _ _ _ (c .before .before .fit-whole .ensures) (c .enum-told2 .given .1))
+returns-4 : tie.Need-returns-4
+returns-4 c = spell-misfit (c .before .before .before .before .before .before .before .before .before .args .table .now) (c .before .before .before .before .before .before .before .before .before .args .start) (c .before .before .before .before .before .before .before .before .before .args .reading .now) (c .before .before .before .before .before .before .before .before .before .args .out .now) (admission (c .before .before .before)) (whole-missing _ _ _ _ (c .before .before .fit-whole .ensures) (c .enum-told2 .given .1))
 
 pub spell-spec : {M : Type 1} → statement M
 spell-spec =
@@ -64,9 +61,8 @@ spell-spec =
     fit-whole-requires
     enum-known-size
     returns-2
-    returns-3
     spell-into-requires
     enum-told-2
     same-length
-    returns-4
-    returns-5)
+    returns-3
+    returns-4)

@@ -3,6 +3,7 @@
 use Prim.Native.Nat.{_-_}
 use native.Mathlib.Omega.{arith}
 use mathlib.Core.Logic.{⊎-elim}
+use mathlib.Core.Path.{sym, _∙_}
 use lib.ListN.{length}
 use Rattle.reading.proofs.Copying.{Copying, copy-start, copy-byte, copy-other, copy-room, copy-end, copy-length}
 use Rattle.reading.proofs.spell_into.Statement.{statement}
@@ -15,25 +16,22 @@ abbrev μ-loop : tie.MeasureT-loop
 μ-loop reading out₀ n at₀ size₀ out at size = length reading - at
 
 loop-holds : tie.Need-loop-holds Inv-loop μ-loop
-loop-holds c = copy-start (c .args .reading .now) (c .args .out .now) (c .pre)
+loop-holds c = copy-start (c .before .before .args .reading .now) (c .before .before .args .out .now) (c .before .before .pre)
 
 sub-loop : tie.Need-sub-loop Inv-loop μ-loop
 sub-loop c = omega (arith, c .loop .inv .placed)
 
-shared-slice-read-kind : tie.Need-shared-slice-read-kind Inv-loop μ-loop
-shared-slice-read-kind c = omega (arith, c .before .before .loop .inv .placed)
+record-kind-requires : tie.Need-record-kind-requires Inv-loop μ-loop
+record-kind-requires c κs = omega (arith, c .before .loop .inv .placed)
 
-add-argument : tie.Need-add-argument Inv-loop μ-loop
-add-argument c = omega (arith, c .before .before .loop .inv .placed)
-
-shared-slice-read-argument : tie.Need-shared-slice-read-argument Inv-loop μ-loop
-shared-slice-read-argument c = omega (arith, c .before .before .before .loop .inv .placed)
+record-argument-requires : tie.Need-record-argument-requires Inv-loop μ-loop
+record-argument-requires c κs = omega (arith, c .before .before .loop .inv .placed)
 
 slice-write-out : tie.Need-slice-write-out Inv-loop μ-loop
-slice-write-out c = copy-room (c .before .before .before .before .loop .inv) (omega (arith, c .before .before .before .before .loop .inv .placed)) (c .if1 .taken)
+slice-write-out c = copy-room (c .before .before .before .before .loop .inv) (omega (arith, c .before .before .before .before .loop .inv .placed)) (sym (c .before .before .record-kind .ensures) ∙ c .if1 .taken)
 
 add-size : tie.Need-add-size Inv-loop μ-loop
-add-size c = omega (arith, copy-room (c .before .before .before .before .loop .inv) (omega (arith, c .before .before .before .before .loop .inv .placed)) (c .if1 .taken), copy-length (c .before .before .before .before .loop .inv), c .before .before .before .before .before .good)
+add-size c = omega (arith, copy-room (c .before .before .before .before .loop .inv) (omega (arith, c .before .before .before .before .loop .inv .placed)) (sym (c .before .before .record-kind .ensures) ∙ c .if1 .taken), copy-length (c .before .before .before .before .loop .inv), c .before .before .before .before .before .before .before .good)
 
 add-at : tie.Need-add-at Inv-loop μ-loop
 add-at c = omega (arith, c .before .before .before .before .loop .inv .placed)
@@ -43,8 +41,8 @@ loop-less c = omega (arith, c .before .before .before .before .loop .inv .placed
 
 loop-again : tie.Need-loop-again Inv-loop μ-loop
 loop-again c = ⊎-elim
-    (λ w. copy-byte (c .before .before .before .before .loop .inv) (omega (arith, c .before .before .before .before .loop .inv .placed)) (w .0 .taken) _ _ (w .1) (w .2))
-    (λ w. copy-other (c .before .before .before .before .loop .inv) (omega (arith, c .before .before .before .before .loop .inv .placed)) (w .0 .left) _ _ (w .1) (w .2))
+    (λ w. copy-byte (c .before .before .before .before .loop .inv) (omega (arith, c .before .before .before .before .loop .inv .placed)) (sym (c .before .before .record-kind .ensures) ∙ w .0 .taken) (w .1) (c .before .record-argument .ensures) (w .2))
+    (λ w. copy-other (c .before .before .before .before .loop .inv) (omega (arith, c .before .before .before .before .loop .inv .placed)) (λ z. w .0 .left (c .before .before .record-kind .ensures ∙ z)) (w .1) (w .2))
     (c .if1 .came)
 
 same-length : tie.Need-same-length Inv-loop μ-loop
@@ -61,9 +59,8 @@ spell-into-spec =
     μ-loop
     loop-holds
     sub-loop
-    shared-slice-read-kind
-    add-argument
-    shared-slice-read-argument
+    record-kind-requires
+    record-argument-requires
     slice-write-out
     add-size
     add-at

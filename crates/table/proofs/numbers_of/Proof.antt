@@ -40,23 +40,20 @@ enum-known-why-6 c = c .match .keys11
 enum-known-why-7 : tie.Need-enum-known-why-7
 enum-known-why-7 c = c .match .keys12
 
-enum-known-why-8 : tie.Need-enum-known-why-8
-enum-known-why-8 c = c .match .keys13
-
 enum-told-6 : tie.Need-enum-told-6
-enum-told-6 c = c .match .keys14
+enum-told-6 c = c .match .keys13
 
 enum-told-7 : tie.Need-enum-told-7
-enum-told-7 c = c .match .keys15
+enum-told-7 c = c .match .keys14
 
 enum-told-8 : tie.Need-enum-told-8
-enum-told-8 c = c .match .keys16
+enum-told-8 c = c .match .keys15
 
 enum-told-9 : tie.Need-enum-told-9
-enum-told-9 c = c .match .keys17
+enum-told-9 c = c .match .keys16
 
 enum-told-10 : tie.Need-enum-told-10
-enum-told-10 c = c .match .keys18
+enum-told-10 c = c .match .keys17
 
 returns : tie.Need-returns
 returns c = ap refusal (sym (c .enum-told .given .1))
@@ -95,22 +92,19 @@ returns-12 : tie.Need-returns-12
 returns-12 c = ap refusal (sym (c .before .why7 .given .1))
 
 returns-13 : tie.Need-returns-13
-returns-13 c = ap refusal (sym (c .before .why8 .given .1))
+returns-13 c = ap refusal (sym (c .enum-told6 .given .1))
 
 returns-14 : tie.Need-returns-14
-returns-14 c = ap refusal (sym (c .enum-told6 .given .1))
+returns-14 c = ap refusal (sym (c .enum-told7 .given .1))
 
 returns-15 : tie.Need-returns-15
-returns-15 c = ap refusal (sym (c .enum-told7 .given .1))
+returns-15 c = ap refusal (sym (c .enum-told8 .given .1))
 
 returns-16 : tie.Need-returns-16
-returns-16 c = ap refusal (sym (c .enum-told8 .given .1))
+returns-16 c = ap refusal (sym (c .enum-told9 .given .1))
 
 returns-17 : tie.Need-returns-17
-returns-17 c = ap refusal (sym (c .enum-told9 .given .1))
-
-returns-18 : tie.Need-returns-18
-returns-18 c = ap refusal (sym (c .enum-told10 .given .1))
+returns-17 c = ap refusal (sym (c .enum-told10 .given .1))
 
 pub numbers-of-spec : {M : Type 1} → statement M
 numbers-of-spec =
@@ -128,7 +122,6 @@ numbers-of-spec =
     enum-told-5
     enum-known-why-6
     enum-known-why-7
-    enum-known-why-8
     enum-told-6
     enum-told-7
     enum-told-8
@@ -150,5 +143,4 @@ numbers-of-spec =
     returns-14
     returns-15
     returns-16
-    returns-17
-    returns-18)
+    returns-17)

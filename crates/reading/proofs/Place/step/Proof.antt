@@ -2,7 +2,7 @@
 use native.Mathlib.Omega.{arith}
 use mathlib.Core.Path.{sym}
 use borrow.Author.Needs.{needs}
-use Rattle.reading.proofs.Walks.{stepped-on, stepped-not}
+use Rattle.reading.proofs.Places.{stepped-on, stepped-not}
 use Rattle.reading.proofs.Place.step.Statement.{statement}
 use Rattle.reading.proofs.Place.step.Tie as tie
 
