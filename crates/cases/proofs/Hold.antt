@@ -1,4 +1,5 @@
--- Tables T1 to T4, the cases A to J and those of Other, of empty parts and of texts follow from the definitions that the calls' contracts cite: one proof over the list.
+-- Tables T1 to T4, the cases A to J and those of Other, of empty parts, of texts and of wrong lengths and record numbers follow from the definitions that the
+-- calls' contracts cite: one proof over the list.
 -- Assumes nothing.
 use mathlib.Core.Path.{_≡_, refl}
 use mathlib.Core.List.{map}

@@ -1,5 +1,5 @@
-// Runs the cases A to J of document 01, and those of document 02's Other, empty parts and texts, through the calls and writes a line for each: the
-// answer, and the bytes that the call wrote. The tables and readings are those of specs/, which the one proof over the cases covers.
+// Runs the cases A to J of document 01, and those of document 02's Other, empty parts, texts and written lengths, through the calls and writes a line for
+// each: the answer, and the bytes that the call wrote. The tables and readings are those of specs/, which the one proof over the cases covers.
 
 ghost use mathlib.Core.Path.{_≡_};
 ghost use Rattle.cases.specs.Tables.{T1, T2, T3, T4, Remark, NoByte, AllBut5, Crossed, Kind7, Gust, Blank, T1-text, T2-text};

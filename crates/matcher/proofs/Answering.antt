@@ -46,7 +46,7 @@ module _ {t s w : List ℕ} {k : ℕ} (h : Here t s w k (length s) (length s)) w
       subst (λ (u : List ℕ). records v ≤ count t * max (length u) 1) (posix-flat p) (records-reads t (h .passes) k (h .record-inside) (posix-reads p)) in
       omega (arith, encode-length t k (posix-reads p))
 
-  whole-small : {v : Val} → Posix s (expOf t k) v → length (encode t k v) ≤ 260100
+  whole-small : {v : Val} → Posix s (expOf t k) v → length (encode t k v) ≤ recordSize * 65025
   whole-small p =
       let few : count t ≤ 255 = omega (arith, count-bound t (h .passes)) in
       let short : max (length s) 1 ≤ 255 = omega (arith, h .short) in
