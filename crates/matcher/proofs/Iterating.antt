@@ -5,11 +5,10 @@ use native.Mathlib.Omega.{arith}
 use mathlib.Core.Path.{_≡_, refl, sym, _∙_, ap, subst}
 use mathlib.Core.Bool.{Bool}
 use mathlib.Core.List.{List, [], _++_, append-assoc, append-nil}
-use lib.ListN.{length, length-append}
+use lib.ListN.{length}
 use Rattle.regex.specs.Expressions.{Exp, star}
-use Rattle.regex.specs.Values.{Val, none, more, flat, Reads, reads-none, reads-more}
+use Rattle.regex.specs.Values.{Val, none, more}
 use Rattle.regex.specs.Relation.{Posix}
-use Rattle.regex.proofs.Lists.{length-pos}
 use Rattle.regex.proofs.Flats.{posix-flat, posix-reads}
 use Rattle.regex.proofs.Ahead.{posix-unique}
 use Rattle.table.specs.Records.{count, kindAt, aAt}

@@ -8,7 +8,7 @@ use native.Mathlib.Omega.{arith}
 use Rattle.regex.specs.Expressions.{Exp}
 use Rattle.regex.specs.Values.{Val, byte, left, right, pair, more, Reads, reads-void, reads-byte, reads-left, reads-right, reads-pair, reads-none, reads-more}
 use Rattle.table.specs.Records.{aAt, bAt}
-use Rattle.reading.specs.Codec.{recordsOf, kindOf, argumentOf, encodeBelow, encode}
+use Rattle.reading.specs.Codec.{kindOf, argumentOf, encodeBelow, encode}
 use Rattle.reading.specs.Fitting.{Fits, kindsAndArguments}
 use Rattle.reading.proofs.Codec.{star-kind}
 

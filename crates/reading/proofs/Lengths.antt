@@ -1,12 +1,12 @@
 -- What an encoding's bytes are: a record's for each record, and the line in its Byte records (document 01, "Readings").
 -- Assumes nothing.
-use Prim.Native.Nat.{ℕ, zero, suc, _+_, _*_, _≤_}
+use Prim.Native.Nat.{ℕ, _+_, _*_, _≤_}
 use mathlib.Core.Path.{_≡_, refl, sym, _∙_, ap}
-use mathlib.Core.List.{List, [], _∷_, _++_, append-assoc, append-nil}
+use mathlib.Core.List.{List, [], _++_, append-assoc, append-nil}
 use native.Mathlib.Omega.{arith}
 use lib.ListN.{length, length-append}
-use Rattle.regex.specs.Expressions.{Exp, star}
-use Rattle.regex.specs.Values.{Val, void, byte, left, right, pair, none, more, flat, records, Reads, reads-void, reads-byte, reads-left, reads-right, reads-pair, reads-none, reads-more}
+use Rattle.regex.specs.Expressions.{Exp}
+use Rattle.regex.specs.Values.{Val, flat, records, Reads, reads-void, reads-byte, reads-left, reads-right, reads-pair, reads-none, reads-more}
 use Rattle.table.specs.Records.{aAt, bAt}
 use Rattle.reading.specs.Codec.{recordSize, encodeBelow, encode}
 use Rattle.reading.specs.Fitting.{Fits, spelled}

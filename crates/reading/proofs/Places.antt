@@ -1,13 +1,13 @@
 -- Places in a byte sequence: the record that stands there, and the records from there on.
 -- Assumes nothing.
 use Prim.Native.Nat.{ℕ, suc, _+_, _≤_, _<_}
-use mathlib.Core.Path.{_≡_, refl, sym, _∙_, ap}
+use mathlib.Core.Path.{_≡_, refl, _∙_, ap}
 use mathlib.Core.List.{List, [], _∷_, _++_}
 use native.Mathlib.Omega.{arith}
 use borrow.Author.Tests.{le-leb, lt-leb}
 use lib.ListN.{length, getD, drop, length-drop}
 use lib.Seq.{drop-cons}
-use Rattle.reading.specs.Codec.{recordSize, Record, recordBytes, recordAt, recordsOf}
+use Rattle.reading.specs.Codec.{recordSize, recordBytes, recordAt, recordsOf}
 use Rattle.reading.specs.Fitting.{stepped}
 
 -- a place with a record left: its bytes, and the bytes after it

@@ -23,7 +23,7 @@ use Rattle.reading.specs.declared.Fit.the-variants.{Found, Unfit}
 use Rattle.reading.specs.declared.Shape.{Shape}
 use Rattle.reading.specs.declared.Shape.the-variants.{Leaf, Left, Right, Both, Many, Wrong}
 use Rattle.reading.specs.Codec.{recordSize, recordBytes, recordAt, encode, Decoded, fits, unfit, under, chain, pick, nonEmpty, decodeItems, isLength, held, atRecord, decode}
-use Rattle.reading.specs.Walks.{pickShape, letterShape, shapeOf, shapeBy, shapeAt, leaf, decodeBy, spanOf, fitAt, fitItems, longer, thenFit, unlessEmpty, spellingPart, fitBy, lengthAt, fitIf, heldPart}
+use Rattle.reading.specs.Walks.{pickShape, letterShape, shapeOf, shapeBy, shapeAt, leaf, decodeBy, spanOf, fitAt, fitItems, longer, thenFit, spellingPart, fitBy, lengthAt, fitIf, heldPart}
 use Rattle.reading.proofs.Codec.{length-written, decode-sound}
 use Rattle.reading.proofs.Lengths.{encode-length, flat-records, records-some}
 use Rattle.reading.proofs.Places.{drop-record}

@@ -4,7 +4,7 @@ use Prim.Native.Nat.{ℕ, zero, suc, _+_, _-_}
 use mathlib.Core.Bool.{Bool, true, false, _&&_}
 use mathlib.Core.List.{List}
 use lib.Dec.{eqb, leb}
-use lib.ListN.{length, getD, drop}
+use lib.ListN.{length, drop}
 use Rattle.regex.specs.Expressions.{ByteSet, within, outside, holds}
 use Rattle.regex.specs.Values.{void, byte, left, right, pair, flat}
 use Rattle.regex.specs.Decision.{Parsed, found, missing}
