@@ -261,7 +261,7 @@ pub unless-zero : (n i : ℕ) (marks : List ℕ) → n ≡ 0 → MarkedUnless n 
 unless-zero n i marks z = record { size = refl; kept = λ j h. h; new = λ x. absurd (x z) }
 
 pub unless-marked : (n : ℕ) {i j : ℕ} → i ≡ j → {marks marks′ : List ℕ} → MarkedToo i marks marks′ → MarkedUnless n j marks marks′
-unless-marked n e p = record { size = p .size; kept = p .kept; new = λ x. rw e at (p .new) }
+unless-marked n e p = record { size = p .size; kept = p .kept; new = λ x. rw e at (p .new _ refl) }
 
 -- the code's test for a plain record
 module _ (t bounds s : List ℕ) (k : ℕ) (w : List ℕ) where

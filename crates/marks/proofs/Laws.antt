@@ -5,9 +5,9 @@ use native.Mathlib.Nat.{max-le, le-max-left, le-max-right, max-eq-left, max-eq-r
 use native.Mathlib.Numerals.{one-add}
 use native.Mathlib.Omega.{arith}
 use mathlib.Core.Path.{_≡_, refl, sym, ap, _∙_, subst}
-use mathlib.Core.Logic.{_⊎_, inl, inr, ⊎-elim}
+use mathlib.Core.Logic.{_⊎_, inl, inr, ⊎-elim, ⊎-map}
 use mathlib.Core.Bool.{Bool, true, false}
-use mathlib.Core.List.{List}
+use mathlib.Core.List.{List, [], _∷_}
 use lib.Arith.{digits-mod, lt-one}
 use lib.Bits.{bitOr, or-step, or-shr}
 use lib.Count.{trailingZeros, under, trailing-le}
@@ -16,7 +16,7 @@ use lib.ListN.{length, getD, set, length-set}
 use lib.Pow.{pow-lt, pow-add, shl-exact, shl-shr, shr-shr, shr-lt}
 use lib.Seq.{getD-set-same, getD-set-other}
 use borrow.Author.Tests.{eq-eqb, ne-eqb, eqb-true, eqb-false, ltb-true, ltb-false}
-use Rattle.marks.specs.Marks.{marked, MarkedToo, NextMarked, Copied}
+use Rattle.marks.specs.Marks.{marked, MarkedAll, MarkedToo, FromWord, NextMarked, Copied}
 
 below-or : (x y : ℕ) → (x < y) ⊎ (y ≤ x)
 below-or x y = go (ltb x y) refl
@@ -41,6 +41,20 @@ bit-marked ws i e = eqb-true _ 1 e
 pub unmarked-bit : (ws : List ℕ) (i : ℕ) → getD ws (i / 64) 0 / 2 ^ (i % 64) % 2 ≡ 0 → marked ws i ≡ false
 unfolding marked
 unmarked-bit ws i e = ne-eqb _ 1 (λ (q : getD ws (i / 64) 0 / 2 ^ (i % 64) % 2 ≡ 1). omega arith)
+
+-- there is no word behind the last
+no-word : (ws : List ℕ) (i : ℕ) → length ws ≤ i → getD ws i 0 ≡ 0
+no-word [] i h = refl
+no-word (w ∷ ws) zero h = absurd (omega arith)
+no-word (w ∷ ws) (suc i) h = no-word ws i (le-of-suc-le-suc h)
+
+-- nothing is marked behind the last word
+pub marked-inside : (ws : List ℕ) (i : ℕ) → 64 * length ws ≤ i → ¬ (marked ws i ≡ true)
+marked-inside ws i l m =
+    let none : getD ws (i / 64) 0 ≡ 0 = no-word ws (i / 64) (omega arith) in
+    let z : 0 / 2 ^ (i % 64) % 2 ≡ 1 = rw none at (bit-marked ws i m) in
+    let e : _≡_ {A = ℕ} 0 1 = sym (ap (λ (x : ℕ). x % 2) (zero-div (2 ^ (i % 64)))) ∙ z in
+    omega arith
 
 -- the same bit of the same word is marked alike
 pub marked-alike : (us ws : List ℕ) (i j : ℕ) → getD us (i / 64) 0 ≡ getD ws (j / 64) 0 → i % 64 ≡ j % 64 → marked us i ≡ marked ws j
@@ -112,45 +126,126 @@ one-bit-only k j h e =
 one-bit : (k : ℕ) → k < 64 → 1 * 2 ^ k % 2 ^ 64 / 2 ^ k % 2 ≡ 1
 one-bit k h = ap (λ (n : ℕ). n / 2 ^ k % 2) (shl-exact 1 k 64 (lit< tt) (omega arith)) ∙ ap (λ (n : ℕ). n % 2) (shl-shr 1 k)
 
--- setting bit i % 64 of word i / 64 marks i
-pub marked-too : (ws : List ℕ) (i : ℕ) → i < 64 * length ws
-    → MarkedToo i ws (set ws (i / 64) (bitOr (getD ws (i / 64) 0) (1 * 2 ^ (i % 64) % 2 ^ 64)))
-marked-too ws i l =
+-- what is marked too, by another test that is true of the same numbers
+pub marked-as : {P Q : ℕ → Type 0} {ws ws′ : List ℕ} → ((j : ℕ) → P j → Q j) → ((j : ℕ) → Q j → P j) → MarkedAll P ws ws′ → MarkedAll Q ws ws′
+marked-as f g p =
+    record { size = p .size; kept = p .kept; new = λ j q. p .new j (g j q); only = λ j m. ⊎-map (f j) (λ (h : _). h) (p .only j m) }
+
+-- nothing is marked too
+pub marked-none : {P : ℕ → Type 0} {ws : List ℕ} → ((j : ℕ) → ¬ (P j)) → MarkedAll P ws ws
+marked-none n = record { size = refl; kept = λ j m. m; new = λ j p. absurd (n j p); only = λ j m. inr m }
+
+-- first the numbers of P, then those of Q
+pub marked-then :
+    {P Q R : ℕ → Type 0} {us vs ws : List ℕ} → ((j : ℕ) → R j → P j ⊎ Q j) → ((j : ℕ) → P j → R j) → ((j : ℕ) → Q j → R j)
+    → MarkedAll P us vs
+    → MarkedAll Q vs ws
+    → MarkedAll R us ws
+marked-then {P} {Q} {R} {us} {vs} {ws} f g h p q =
     record {
-      size = length-set ws (i / 64) v;
-      kept = λ j m. marked-bit (set ws (i / 64) v) j (still j (eqb (j / 64) (i / 64)) refl (bit-marked ws j m));
-      new =
-          marked-bit (set ws (i / 64) v) i
-          (rw here (bit-or-right (getD ws (i / 64) 0) (1 * 2 ^ (i % 64) % 2 ^ 64) (i % 64) (one-bit (i % 64) (omega arith))));
-      only = λ j m. was j (eqb (j / 64) (i / 64)) refl (bit-marked (set ws (i / 64) v) j m);
+      size = q .size ∙ p .size;
+      kept = λ j m. q .kept j (p .kept j m);
+      new = λ j r. ⊎-elim (λ (x : P j). q .kept j (p .new j x)) (λ (x : Q j). q .new j x) (f j r);
+      only = λ j m.
+          ⊎-elim
+          (λ (x : Q j). inl (h j x))
+          (λ (x : marked vs j ≡ true). ⊎-elim (λ (y : P j). inl (g j y)) (λ (y : marked us j ≡ true). inr y) (p .only j x))
+          (q .only j m);
+    }
+
+-- the numbers of word q whose bits are those of x
+abbrev pub InWord : ℕ → ℕ → ℕ → Type 0
+InWord q x j = (j / 64 ≡ q) × (x / 2 ^ (j % 64) % 2 ≡ 1)
+
+-- a word joined with x marks the numbers of its bits
+pub word-joined : (ws : List ℕ) (q x : ℕ) → q < length ws → MarkedAll (InWord q x) ws (set ws q (bitOr (getD ws q 0) x))
+word-joined ws q x l =
+    record {
+      size = length-set ws q v;
+      kept = λ j m. marked-bit (set ws q v) j (still j (eqb (j / 64) q) refl (bit-marked ws j m));
+      new = λ j p. marked-bit (set ws q v) j (rw (p .0, here) (bit-or-right (getD ws q 0) x (j % 64) (p .1)));
+      only = λ j m. was j (eqb (j / 64) q) refl (bit-marked (set ws q v) j m);
     }
   where
     v : ℕ
-    v = bitOr (getD ws (i / 64) 0) (1 * 2 ^ (i % 64) % 2 ^ 64)
+    v = bitOr (getD ws q 0) x
 
-    here : getD (set ws (i / 64) v) (i / 64) 0 ≡ v
-    here = getD-set-same ws (i / 64) v 0 (omega arith)
+    here : getD (set ws q v) q 0 ≡ v
+    here = getD-set-same ws q v 0 l
 
-    still : (j : ℕ) (b : Bool) → eqb (j / 64) (i / 64) ≡ b → getD ws (j / 64) 0 / 2 ^ (j % 64) % 2 ≡ 1
-        → getD (set ws (i / 64) v) (j / 64) 0 / 2 ^ (j % 64) % 2 ≡ 1
+    still : (j : ℕ) (b : Bool) → eqb (j / 64) q ≡ b → getD ws (j / 64) 0 / 2 ^ (j % 64) % 2 ≡ 1 → getD (set ws q v) (j / 64) 0 / 2 ^ (j % 64) % 2 ≡ 1
     still j true e m =
-        let same : j / 64 ≡ i / 64 = eqb-true (j / 64) (i / 64) e in
-        let old : getD ws (i / 64) 0 / 2 ^ (j % 64) % 2 ≡ 1 = rw same at m in
-        rw (same, here) (bit-or-left (getD ws (i / 64) 0) (1 * 2 ^ (i % 64) % 2 ^ 64) (j % 64) old)
-    still j false e m = rw (getD-set-other ws (i / 64) (j / 64) v 0 (eqb-false (j / 64) (i / 64) e)) m
+        let same : j / 64 ≡ q = eqb-true (j / 64) q e in
+        let old : getD ws q 0 / 2 ^ (j % 64) % 2 ≡ 1 = rw same at m in
+        rw (same, here) (bit-or-left (getD ws q 0) x (j % 64) old)
+    still j false e m = rw (getD-set-other ws q (j / 64) v 0 (eqb-false (j / 64) q e)) m
 
-    was : (j : ℕ) (b : Bool) → eqb (j / 64) (i / 64) ≡ b → getD (set ws (i / 64) v) (j / 64) 0 / 2 ^ (j % 64) % 2 ≡ 1
-        → (j ≡ i) ⊎ (marked ws j ≡ true)
+    was : (j : ℕ) (b : Bool) → eqb (j / 64) q ≡ b → getD (set ws q v) (j / 64) 0 / 2 ^ (j % 64) % 2 ≡ 1 → InWord q x j ⊎ (marked ws j ≡ true)
     was j true e m =
-        let same : j / 64 ≡ i / 64 = eqb-true (j / 64) (i / 64) e in
+        let same : j / 64 ≡ q = eqb-true (j / 64) q e in
         let both : v / 2 ^ (j % 64) % 2 ≡ 1 = rw (same, here) at m in
         ⊎-elim
-        (λ (old : getD ws (i / 64) 0 / 2 ^ (j % 64) % 2 ≡ 1). inr (marked-bit ws j (rw same old)))
-        (λ (new : 1 * 2 ^ (i % 64) % 2 ^ 64 / 2 ^ (j % 64) % 2 ≡ 1).
-        let bits : j % 64 ≡ i % 64 = one-bit-only (i % 64) (j % 64) (omega arith) new in
-        inl (omega arith))
-        (or-bit (getD ws (i / 64) 0) (1 * 2 ^ (i % 64) % 2 ^ 64) (j % 64) both)
-    was j false e m = inr (marked-bit ws j (rw (getD-set-other ws (i / 64) (j / 64) v 0 (eqb-false (j / 64) (i / 64) e)) at m))
+        (λ (old : getD ws q 0 / 2 ^ (j % 64) % 2 ≡ 1). inr (marked-bit ws j (rw same old)))
+        (λ (new : x / 2 ^ (j % 64) % 2 ≡ 1). inl (same, new))
+        (or-bit (getD ws q 0) x (j % 64) both)
+    was j false e m = inr (marked-bit ws j (rw (getD-set-other ws q (j / 64) v 0 (eqb-false (j / 64) q e)) at m))
+
+-- setting bit i % 64 of word i / 64 marks i
+pub marked-too : (ws : List ℕ) (i : ℕ) → i < 64 * length ws
+    → MarkedToo i ws (set ws (i / 64) (bitOr (getD ws (i / 64) 0) (1 * 2 ^ (i % 64) % 2 ^ 64)))
+marked-too ws i l = marked-as one one-back (word-joined ws (i / 64) (1 * 2 ^ (i % 64) % 2 ^ 64) (omega arith))
+  where
+    one : (j : ℕ) → InWord (i / 64) (1 * 2 ^ (i % 64) % 2 ^ 64) j → j ≡ i
+    one j p = let bits : j % 64 ≡ i % 64 = one-bit-only (i % 64) (j % 64) (omega arith) (p .1) in omega (arith, p .0)
+
+    one-back : (j : ℕ) → j ≡ i → InWord (i / 64) (1 * 2 ^ (i % 64) % 2 ^ 64) j
+    one-back j e = rw e (refl, one-bit (i % 64) (omega arith))
+
+-- the words of `from` up to n, joined to those of `to` from word `at` on
+abbrev pub JoinedTo : ℕ → ℕ → List ℕ → List ℕ → List ℕ → Type 0
+JoinedTo n at from = MarkedAll (λ j. FromWord at from j × (j < 64 * (at + n)))
+
+pub joined-none : (at : ℕ) (from to : List ℕ) → JoinedTo 0 at from to to
+joined-none at from to = marked-none (λ j p. omega (arith, p .0 .0, p .1))
+
+pub joined-more :
+    (n at : ℕ) (from to to′ : List ℕ) → JoinedTo n at from to to′ → at + n < length to′
+    → JoinedTo (n + 1) at from to (set to′ (at + n) (bitOr (getD to′ (at + n) 0) (getD from n 0)))
+joined-more n at from to to′ p l = marked-then split earlier here p (word-joined to′ (at + n) (getD from n 0) l)
+  where
+    split :
+        (j : ℕ) → FromWord at from j × (j < 64 * (at + (n + 1)))
+        → (FromWord at from j × (j < 64 * (at + n))) ⊎ InWord (at + n) (getD from n 0) j
+    split j (f, g) =
+        ⊎-elim
+        (λ (k : j < 64 * (at + n)). inl (f, k))
+        (λ (k : 64 * (at + n) ≤ j).
+        let word : (j - 64 * at) / 64 ≡ n = omega (arith, f .0) in
+        let bit : (j - 64 * at) % 64 ≡ j % 64 = omega (arith, f .0) in
+        let set-bit : getD from n 0 / 2 ^ (j % 64) % 2 ≡ 1 = rw (word, bit) at (bit-marked from (j - 64 * at) (f .1)) in
+        inr (omega (arith, f .0), set-bit))
+        (below-or j (64 * (at + n)))
+
+    earlier : (j : ℕ) → FromWord at from j × (j < 64 * (at + n)) → FromWord at from j × (j < 64 * (at + (n + 1)))
+    earlier j (f, g) = (f, omega arith)
+
+    here : (j : ℕ) → InWord (at + n) (getD from n 0) j → FromWord at from j × (j < 64 * (at + (n + 1)))
+    here j (w, b) =
+        let word : (j - 64 * at) / 64 ≡ n = omega arith in
+        let bit : (j - 64 * at) % 64 ≡ j % 64 = omega arith in
+        ((omega arith, marked-bit from (j - 64 * at) (rw (word, bit) b)), omega arith)
+
+-- all words of `from`; behind them nothing is marked
+pub joined-all :
+    (n at : ℕ) (from to to′ : List ℕ) → length from ≤ n → JoinedTo n at from to to′ → MarkedAll (FromWord at from) to to′
+joined-all n at from to to′ l p = marked-as (λ j q. q .0) within p
+  where
+    within : (j : ℕ) → FromWord at from j → FromWord at from j × (j < 64 * (at + n))
+    within j q =
+        ⊎-elim
+        (λ (k : j < 64 * (at + n)). (q, k))
+        (λ (k : 64 * (at + n) ≤ j). absurd (marked-inside from (j - 64 * at) (omega (arith, q .0)) (q .1)))
+        (below-or j (64 * (at + n)))
 
 -- the bits below the trailing zeros' end are 0
 below-under : (n d t i : ℕ) → n % 2 ≡ d → ((j : ℕ) → j < t → n / 2 / 2 ^ j % 2 ≡ 0) → i < under d t → n / 2 ^ i % 2 ≡ 0

@@ -3,7 +3,7 @@
 ghost use Prim.Native.Nat.{_+_, _-_, _*_, _≤_, _<_};
 ghost use mathlib.Core.Path.{_≡_};
 ghost use lib.ListN.{length};
-ghost use Rattle.marks.specs.Marks.{marked, MarkedToo, NextMarked, Copied};
+ghost use Rattle.marks.specs.Marks.{marked, MarkedAll, MarkedToo, FromWord, NextMarked, Copied};
 
 // Whether number i is marked.
 pub fn is_marked(words: &[u64], i: usize) -> bool
@@ -64,6 +64,18 @@ pub fn copy_marks(to: &mut [u64], from: &[u64], at: usize)
     let mut i = 0;
     while i < to.len() {
         to[i] = from[at + i];
+        i += 1;
+    }
+}
+
+// Marks the numbers of `from` in `to`, counted on from word `at`.
+pub fn join_marks(to: &mut [u64], at: usize, from: &[u64])
+    requires { ⌜ at + length (now from) ≤ length (now to) ⌝ }
+    ensures { λ _. ⌜ MarkedAll (FromWord at (now (from .entry))) (now (to .entry)) (now (to .exit)) ⌝ }
+{
+    let mut i = 0;
+    while i < from.len() {
+        to[at + i] = to[at + i] | from[i];
         i += 1;
     }
 }

@@ -24,7 +24,7 @@ use Rattle.reading.proofs.Lengths.{encode-length}
 use Rattle.reading.proofs.Sizes.{records-reads}
 use Rattle.reading.proofs.Writing.{sets-front}
 use Rattle.matcher.specs.Walks.{mostBytes, Here, Given, Walked, Answered}
-use Rattle.matcher.proofs.Parts.{part-whole}
+use Rattle.area.proofs.Parts.{part-line}
 use Rattle.matcher.proofs.Positions.{reading}
 
 -- the whole line at the start record
@@ -34,10 +34,10 @@ module _ {t s w : List ℕ} {k : ℕ} (h : Here t s w k (length s) (length s)) w
   sizes-small = (omega (arith, count-bound t (h .passes)), h .short)
 
   whole-line : {v : Val} → Posix (part s (length s) (length s)) (expOf t k) v → Posix s (expOf t k) v
-  whole-line {v} p = subst (λ (u : List ℕ). Posix u (expOf t k) v) (part-whole s) p
+  whole-line {v} p = subst (λ (u : List ℕ). Posix u (expOf t k) v) (part-line s) p
 
   whole-part : {v : Val} → Posix s (expOf t k) v → Posix (part s (length s) (length s)) (expOf t k) v
-  whole-part {v} p = subst (λ (u : List ℕ). Posix u (expOf t k) v) (sym (part-whole s)) p
+  whole-part {v} p = subst (λ (u : List ℕ). Posix u (expOf t k) v) (sym (part-line s)) p
 
   -- no reading is larger than the largest there can be
   whole-most : {v : Val} → Posix s (expOf t k) v → length (encode t k v) ≤ mostBytes (count t) (length s)

@@ -17,7 +17,7 @@ use Rattle.regex.proofs.Spells.{spells-sound, spells-complete}
 use Rattle.regex.proofs.Parse.{posix-exists}
 use Rattle.regex.proofs.Ahead.{posix-unique}
 use Rattle.area.specs.Area.{part}
-use Rattle.matcher.proofs.Parts.{part-length, part-cut, same-cut}
+use Rattle.area.proofs.Parts.{part-length, part-cut, same-cut}
 
 -- e1 is the largest cut of the first e of the last d bytes of s with its first part spelled by r1 and its rest by r2
 pub record Largest (r1 r2 : Exp) (s : List ℕ) (d e e1 : ℕ) : Type 0 where

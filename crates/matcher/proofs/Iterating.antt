@@ -18,7 +18,7 @@ use Rattle.area.specs.Area.{part}
 use Rattle.reading.specs.Codec.{argumentOf, encodeBelow, encode}
 use Rattle.reading.proofs.ByteLists.{iterations-bound}
 use Rattle.matcher.specs.Walks.{Here, Room, Stored, LongestCut, Given, Walked, Counted}
-use Rattle.matcher.proofs.Parts.{part-length, part-zero}
+use Rattle.area.proofs.Parts.{part-length, part-none}
 use Rattle.matcher.proofs.Cuts.{CutReading, star-reading}
 use Rattle.matcher.proofs.Readings.{none-reading}
 use Rattle.matcher.proofs.Storing.{stored-none, stored-join, room-first, room-rest}
@@ -37,7 +37,7 @@ module _
 
     -- no byte is left
     star-none : e ≡ 0 → v ≡ none
-    star-none o = none-reading (ap (part s d) o ∙ part-zero s d) read-star
+    star-none o = none-reading (ap (part s d) o ∙ part-none s d) read-star
 
     -- the first iteration and the others
     star-cut-reading :

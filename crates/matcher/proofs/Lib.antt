@@ -1,5 +1,4 @@
 -- Read's laws, from parts of a line to the ways out of the call.
-pub mod Parts
 pub mod Cuts
 pub mod Readings
 pub mod Storing

@@ -28,7 +28,7 @@ use Rattle.table.specs.Expression.{expOf}
 use Rattle.table.proofs.Passing.{count-bound}
 use Rattle.rows.specs.Layout.{areaSize, tells}
 use Rattle.rows.specs.Rows.{Inside}
-use Rattle.rows.proofs.Places.{areaSize-formula}
+use Rattle.rows.proofs.Places.{areaSize-formula, row-held}
 use Rattle.area.specs.Area.{Told}
 use Rattle.reading.specs.Codec.{fits, encode, decode}
 use Rattle.reading.specs.Fitting.{spelled}
@@ -40,8 +40,8 @@ use Rattle.reading.proofs.Admission.{Admitted, refusal-numbers, not-admitted}
 use Rattle.matcher.specs.Calls.{workSize, readParsed, readSays, readLeaves, keepsWork, PosixWritten, Unbeaten}
 use Rattle.matcher.specs.Demands.{Setting, NoneOutranks}
 use Rattle.matcher.specs.Walks.{Here, Answered}
-use Rattle.matcher.proofs.Parts.{part-whole}
-use Rattle.matcher.proofs.Positions.{row-held, reading}
+use Rattle.area.proofs.Parts.{part-line}
+use Rattle.matcher.proofs.Positions.{reading}
 use Rattle.matcher.proofs.Rivals.{outranks}
 
 -- Read's contract, in the order of its clauses
@@ -180,7 +180,7 @@ module _ {t : List ℕ} {k : ℕ} {s work : List ℕ} (r : Ready t k s work) whe
   module _ {work1 : List ℕ} (told : Told t s work1) {x : Bool} (e : x ≡ tells (count t) work1 k (length s) (length s)) where
     pub whole-fact : spells (expOf t k) s ≡ x
     whole-fact =
-        ap (spells (expOf t k)) (sym (part-whole s))
+        ap (spells (expOf t k)) (sym (part-line s))
         ∙ sym (told .fact k (length s) (length s) (r .admitted .inside) (le-refl (length s)) (le-refl (length s)))
         ∙ sym e
 
@@ -194,7 +194,7 @@ module _ {t : List ℕ} {k : ℕ} {s work : List ℕ} (r : Ready t k s work) whe
           short = r .short;
           left = le-refl (length s);
           size = le-refl (length s);
-          spelled = ap (spells (expOf t k)) (part-whole s) ∙ whole-fact ∙ f;
+          spelled = ap (spells (expOf t k)) (part-line s) ∙ whole-fact ∙ f;
         }
 
   module _ (out : List ℕ) where
@@ -225,7 +225,7 @@ module _ {t : List ℕ} {k : ℕ} {s work : List ℕ} (r : Ready t k s work) whe
         {work1 out1 : List ℕ} {said : Said} → Here t s work1 k (length s) (length s) → Answered t s k out out1 said
         → Outcome t k s work out work1 out1 said
     outcome-answered {work1} {out1} {said} h w =
-        answered (reading h .0) (subst (λ (u : List ℕ). Posix u (expOf t k) (reading h .0)) (part-whole s) (reading h .1))
+        answered (reading h .0) (subst (λ (u : List ℕ). Posix u (expOf t k) (reading h .0)) (part-line s) (reading h .1))
       where
         answered : (v : Val) → Posix s (expOf t k) v → Outcome t k s work out work1 out1 said
         answered v p =

@@ -19,16 +19,11 @@ use Rattle.table.proofs.Laws.{exp-nothing, exp-or, exp-seq, exp-star}
 use Rattle.table.proofs.Passing.{a-below, b-below, star-a-below, count-bound}
 use Rattle.rows.specs.Layout.{areaSize, tells}
 use Rattle.rows.specs.Rows.{Inside}
-use Rattle.rows.proofs.Places.{size-grows}
+use Rattle.rows.proofs.Places.{row-held}
 use Rattle.area.specs.Area.{part}
 use Rattle.matcher.specs.Walks.{Here, ToldCut, Searched, LongestCut}
 use Rattle.matcher.proofs.Cuts.{Largest}
 use Rattle.matcher.proofs.Readings.{SomeCut, seq-cut, star-cut}
-
--- a row in the area of a line with at least as many bytes
-pub row-held : {m d k n : ℕ} {w : List ℕ} → m ≤ 65535 → d ≤ 255 → k < m → d ≤ n → areaSize m n ≤ length w → Inside m d k w
-row-held {m} {d} {k} {n} few short l i held =
-    record { few = few; short = short; known = l; room = omega (arith, size-grows m d n i) }
 
 module _ {t s w : List ℕ} {k d e : ℕ} (h : Here t s w k d e) where
   -- the part has a POSIX reading

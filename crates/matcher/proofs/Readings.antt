@@ -16,7 +16,7 @@ use Rattle.regex.proofs.Flats.{posix-spelled}
 use Rattle.regex.proofs.Languages.{iterated-head}
 use Rattle.regex.proofs.Spells.{spells-sound, spells-complete}
 use Rattle.area.specs.Area.{part}
-use Rattle.matcher.proofs.Parts.{part-length, part-cut, same-cut}
+use Rattle.area.proofs.Parts.{part-length, part-cut, same-cut}
 
 -- Empty reads as Void
 pub empty-reading : {s : List ℕ} {v : Val} → Posix s empty v → (v ≡ void) × (s ≡ [])

@@ -12,7 +12,7 @@ use Rattle.rows.specs.Rows.{Inside}
 use Rattle.rows.proofs.Cuts.{below-or}
 use Rattle.rows.proofs.Growing.{told-above}
 use Rattle.matcher.specs.Walks.{ToldCut, Searched, LongestCut}
-use Rattle.matcher.proofs.Positions.{row-held}
+use Rattle.rows.proofs.Places.{row-held}
 
 -- no cut is above c, and c is none below the lowest
 pub record Searching (m : ℕ) (w : List ℕ) (a b d e lowest c : ℕ) : Type 0 where

@@ -20,7 +20,7 @@ use Rattle.area.specs.Area.{part}
 use Rattle.reading.specs.Codec.{recordWith, kindOf, argumentOf, encodeBelow, encode}
 use Rattle.reading.proofs.Codec.{star-kind}
 use Rattle.matcher.specs.Walks.{Here, Room, Stored, LongestCut, Given, Walked, Counted}
-use Rattle.matcher.proofs.Parts.{part-length, part-one}
+use Rattle.area.proofs.Parts.{part-length, part-one}
 use Rattle.matcher.proofs.Cuts.{CutReading, seq-reading}
 use Rattle.matcher.proofs.Readings.{empty-reading, letter-reading, left-reading, right-reading}
 use Rattle.matcher.proofs.Storing.{stored-join, room-first, room-rest}

@@ -74,7 +74,7 @@ seen-more ts i ws ws′ s m x l = rw add-one (alike (marked ws′ x) (earlier ts
     from : earlier ts (suc i) x ≡ true → marked ws′ x ≡ true
     from e =
         ⊎-elim
-        (λ (q : eqb (nameAt ts i) x ≡ true). rw (eqb-true (nameAt ts i) x q) at (m .new))
+        (λ (q : eqb (nameAt ts i) x ≡ true). rw (eqb-true (nameAt ts i) x q) at (m .new (nameAt ts i) refl))
         (λ (q : earlier ts i x ≡ true). m .kept x (s x l ∙ q))
         (or-true (eqb (nameAt ts i) x) (earlier ts i x) e)
 

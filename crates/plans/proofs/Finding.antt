@@ -259,7 +259,7 @@ marked-in-more k low c s s′ s″ p q =
       new = λ i x y.
           ⊎-elim
           (λ (z : i < c). q .kept (256 * i + k) (p .new i x z))
-          (λ (z : c ≤ i). let same : i ≡ c = omega arith in rw same (q .new))
+          (λ (z : c ≤ i). let same : i ≡ c = omega arith in rw same (q .new (256 * c + k) refl))
           (below-or i c);
     }
 

@@ -17,7 +17,7 @@ pub cases-hold : map computed cases ≡ map stated cases
 cases-hold = refl
 
 -- lists that two functions make alike are made alike at each member
-map-same :
+pub map-same :
     {A B : Type 0} (f g : A → B) (xs : List A) → map f xs ≡ map g xs → (x : A) → List·Memᴰ x xs → f x ≡ g x
 map-same f g [] e x m = absurd (List·Memᴰ·not-nil m)
 map-same f g (y ∷ xs) e x m =

@@ -9,7 +9,9 @@ pub mod Sizes
 pub mod Languages
 pub mod Spells
 pub mod Bytes
+pub mod Extends
 pub mod Parse
 pub mod Found
 pub mod Count
 pub mod Cases
+pub mod ExtendsCases

@@ -12,7 +12,7 @@ use Rattle.regex.specs.Decision.{Parsed, found, missing, parse}
 use Rattle.regex.specs.Ranking.{Verdict, first, rank, Ranked}
 
 -- the letter of one byte
-abbrev only : ℕ → Exp
+abbrev pub only : ℕ → Exp
 only c = letter (within c c)
 
 -- T1, (a + ab + bc)*

@@ -7,7 +7,9 @@ pub mod Relation
 pub mod Precedence
 pub mod Decision
 pub mod Ranking
+pub mod Extends
 pub mod Bench
+pub mod ExtendsCases
 -- What only the functions and proofs inside go by.
 pub mod Nodes
 pub mod Spells

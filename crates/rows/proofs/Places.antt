@@ -8,8 +8,10 @@ use native.Mathlib.Decide.{le-ind}
 use native.Mathlib.Omega.{arith}
 use mathlib.Core.Path.{_≡_, refl, sym, _∙_, ap}
 use mathlib.Core.Logic.{_⊎_, inl, inr}
+use mathlib.Core.List.{List}
+use lib.ListN.{length}
 use Rattle.rows.specs.Layout.{tri, areaSize, headAt, rowAt}
-use Rattle.rows.specs.Rows.{Own}
+use Rattle.rows.specs.Rows.{Own, Inside}
 use Rattle.rows.proofs.Cuts.{below-or}
 
 tri-double : (d : ℕ) → tri d + tri d ≡ d * suc d
@@ -39,6 +41,11 @@ tri-grows d n l = le-ind (λ (x : ℕ). tri d ≤ tri x) (le-refl (tri d)) (λ m
 pub size-grows : (m d n : ℕ) → d ≤ n → areaSize m d ≤ areaSize m n
 unfolding areaSize
 size-grows m d n l = mul-le-mul-left m (tri-grows (suc d) (suc n) (omega arith))
+
+-- a row in the area of a line with at least as many bytes
+pub row-held : {m d k n : ℕ} {w : List ℕ} → m ≤ 65535 → d ≤ 255 → k < m → d ≤ n → areaSize m n ≤ length w → Inside m d k w
+row-held {m} {d} {k} {n} few short l i held =
+    record { few = few; short = short; known = l; room = omega (arith, size-grows m d n i) }
 
 -- block 0 is its headers
 pub first-head : (m k : ℕ) → headAt m 0 k ≡ k

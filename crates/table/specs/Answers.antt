@@ -3,7 +3,7 @@
 -- Assumes nothing.
 use Prim.Native.Nat.{ℕ, _+_, _*_}
 use Rattle.table.specs.declared.Refusal.{Refusal}
-use Rattle.table.specs.declared.Refusal.the-variants.{Size, Kind, Unused, Bounds, Child, Named, Line, NoReading, Start, Work, Buffer, Unfit, Differ, Text, Records, Pairs, TokenBytes}
+use Rattle.table.specs.declared.Refusal.the-variants.{Size, Kind, Unused, Bounds, Child, Named, Line, NoReading, Start, Work, Buffer, Unfit, Differ, Text, Records, Pairs, TokenBytes, EmptyLine}
 use Rattle.table.specs.declared.Answer.{Answer}
 use Rattle.table.specs.declared.Answer.the-variants.{Done, Refused}
 
@@ -31,6 +31,7 @@ refusal Text = refuses 15 0
 refusal Records = refuses 16 0
 refusal Pairs = refuses 17 0
 refusal TokenBytes = refuses 18 0
+refusal EmptyLine = refuses 19 0
 
 -- the answer in the paper's numbers
 abbrev pub says : Answer → Said

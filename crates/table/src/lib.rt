@@ -5,6 +5,7 @@ ghost use mathlib.Core.Path.{_≡_};
 ghost use lib.ListN.{length, set};
 ghost use lib.Seq.{sets};
 ghost use Rattle.regex.specs.Expressions.{holds};
+ghost use Rattle.regex.specs.Extends.{holdsSome};
 ghost use Rattle.table.specs.Records.{kindAt, aAt, bAt, tagAt, recordBytes};
 ghost use Rattle.table.specs.Faults.{badNamed};
 ghost use Rattle.table.specs.Answers.{Said, refuses, refusal, says};
@@ -12,7 +13,7 @@ ghost use Rattle.table.specs.Checked.{checked};
 ghost use Rattle.table.specs.Letters.{byteSet};
 ghost use Rattle.table.specs.Steps.{orSaid, ownFaultOr, isSet, Marks};
 
-// Why a call is refused: one case for each of the paper's numbers 1 to 18 but 13, which no call gives, in their order. A case holds the
+// Why a call is refused: one case for each of the paper's numbers 1 to 19 but 13, which no call gives, in their order. A case holds the
 // refusal's detail where it has one.
 pub enum Refusal {
     Size,
@@ -32,6 +33,7 @@ pub enum Refusal {
     Records,
     Pairs,
     TokenBytes,
+    EmptyLine,
 }
 
 // What a call answers: its result, or the refusal.
@@ -119,6 +121,10 @@ pub fn numbers_of(why: Refusal) -> Numbers
             number: 18,
             detail: 0,
         },
+        Refusal::EmptyLine => Numbers {
+            number: 19,
+            detail: 0,
+        },
     }
 }
 
@@ -181,6 +187,16 @@ pub fn letter_holds(kind: u8, a: u8, b: u8, c: u8) -> bool
         return c < a || b < c;
     }
     a <= c && c <= b
+}
+
+// Whether a letter of a kind, a Range or an Other, with the bounds a and b holds some byte.
+pub fn letter_holds_some(kind: u8, a: u8, b: u8) -> bool
+    ensures { λ r. ⌜ r ≡ holdsSome (byteSet kind a b) ⌝ }
+{
+    if kind == 6 {
+        return 0 < a || b < 255;
+    }
+    a <= b
 }
 
 // Record k's first fault of refusals 2 to 5, or k.

@@ -5,4 +5,5 @@ pub mod Bounds
 pub mod Answers
 pub mod UpTo
 pub mod Ordering
+pub mod Living
 pub mod Promises

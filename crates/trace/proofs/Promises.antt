@@ -1,20 +1,23 @@
 -- The page of promises: the three demands, and what document 02's requests add, over the definitions that the calls' contracts cite, each
 -- proved by one citation. The contracts of table::check, matcher::read, reading::spell, tokens::tokens, ranking::compare, ranking::earlier,
--- notation::compile and order::order say that the calls answer and leave what these definitions say, for every input: none of them has a
+-- notation::compile, order::order, live::LiveLine::new, add and take_back say that the calls answer and leave what these definitions say, for every input: none of them has a
 -- `requires`, and each is proved to end.
 -- The clause rivals of matcher::read and the clause precedence of ranking::compare say demand 3 of the answer and the buffer themselves, and
 -- those of the calls for C of the number.
 -- Assumes nothing.
 use Prim.Native.Nat.{ℕ, _+_, _*_, _%_, _≤_, _<_, max}
 use mathlib.Core.Path.{_≡_}
+use mathlib.Core.Bool.{true}
 use mathlib.Core.List.{List, [], _∷_, _++_, map}
 use mathlib.Core.Logic.{_⊎_, _↔_}
 use lib.ListN.{length, getD, take, drop}
 use Rattle.regex.specs.Expressions.{Exp}
 use Rattle.regex.specs.Values.{Val, flat, Reads}
 use Rattle.regex.specs.Language.{Bytes, L}
+use Rattle.regex.specs.Extends.{Extends, extends}
 use Rattle.regex.proofs.Bytes.{spelled-bytes}
-use Rattle.table.specs.Records.{count, upTo, kindAt, aAt, bAt}
+use Rattle.regex.proofs.Extends.{extends-sound, extends-complete, spelled-extends, extends-start, some-line}
+use Rattle.table.specs.Records.{count, upTo, kindAt, aAt, bAt, recordBytes}
 use Rattle.table.specs.Faults.{Passes}
 use Rattle.table.specs.Answers.{Said, gives, refuses, number}
 use Rattle.table.specs.Checked.{checked}
@@ -43,6 +46,13 @@ use Rattle.ranking.proofs.Misfits.{misfits-first, misfits-second}
 use Rattle.matcher.specs.Calls.{workSize, readSays, readLeaves, PosixWritten}
 use Rattle.matcher.specs.Demands.{Setting, NoneOutranks}
 use Rattle.matcher.proofs.Rivals.{read-outranks}
+use Rattle.live.specs.declared.LiveLine.{LiveLine}
+use Rattle.live.specs.Lines.{holding}
+use Rattle.live.specs.Calls.{newSays, newLeaves, addSays, takeBackSays}
+use Rattle.live.specs.Runs.{Call, callSays, callLeaves, RunsAsModel}
+use Rattle.live.proofs.Holding.{fresh-accepted, fresh-refused}
+use Rattle.live.proofs.OneCall.{refused-keeps}
+use Rattle.live.proofs.Runs.{runs-as-model}
 use Rattle.notation.specs.Trees.{Tree}
 use Rattle.notation.specs.Grammar.{Whole}
 use Rattle.notation.specs.Tables.{size, tableOf}
@@ -63,6 +73,7 @@ use Rattle.trace.proofs.Bounds.{small-checked, small-read, small-spell,
 use Rattle.trace.proofs.Numbers.{same-number}
 use Rattle.trace.proofs.UpTo.{up-to-same, up-to-less}
 use Rattle.trace.proofs.Ordering.{small-order, bytes-tokens, bytes-names}
+use Rattle.trace.proofs.Living.{new-small, add-small, take-back-small}
 
 -- Demand 1: each call gives a result or one of document 01's refusals, but never 13 (request 6), for every table, start number, line, reading and length
 pub check-answers : (t : List ℕ) → Small (checked t)
@@ -85,6 +96,15 @@ compile-answers = small-compile
 
 pub order-answers : (ts : List ℕ) (ps : List Pair) → tokenCount ts < 4294967296 → Small (orderSays ts ps)
 order-answers = small-order
+
+pub live-new-answers : (t : List ℕ) (k : ℕ) → Small (newSays t k)
+live-new-answers = new-small
+
+pub live-add-answers : (h : LiveLine) (c work : ℕ) → Small (addSays h c work)
+live-add-answers = add-small
+
+pub live-take-back-answers : (h : LiveLine) (work : ℕ) → Small (takeBackSays h work)
+live-take-back-answers = take-back-small
 
 -- Demand 1: and no two of these answers have one number for C
 pub number-unique : (x y : Said) → Small x → Small y → number x ≡ number y → x ≡ y
@@ -313,6 +333,37 @@ fits-one-reading = fits-unique
 pub fits-size :
     (t : List ℕ) → Passes t → (k : ℕ) → k < count t → (bs : List ℕ) → Fits t k bs → length bs ≤ recordSize * (count t * max (length (spelled bs)) 1)
 fits-size = bytes-fits
+
+-- Request 7: "whether some bytes after it, none included and of any number, would make it spell a line" is decided, and on the empty line it is
+-- whether the expression spells some line at all. A line that has a reading needs no byte more, and what can be extended could be before its last
+-- bytes, too
+pub extends-exactly : (r : Exp) (s : List ℕ) → (extends r s ≡ true) ↔ Extends r s
+extends-exactly r s = (extends-sound r s, extends-complete r s)
+
+pub extends-some : (r : Exp) → (extends r [] ≡ true) ↔ ((s : List ℕ) × L r s)
+extends-some = some-line
+
+pub extends-spelled : (r : Exp) (s : List ℕ) → L r s → Extends r s
+extends-spelled = spelled-extends
+
+pub extends-earlier : (r : Exp) (s u : List ℕ) → Extends r (s ++ u) → Extends r s
+extends-earlier = extends-start
+
+-- Request 7: a live line "made afresh from a table and start number, holding a copy of both and no bytes, after the refusals 1 to 6 and 9. A refused
+-- one holds one Nothing record, start 0 and no bytes." Every byte of it, the spare ones too
+pub live-made : (t : List ℕ) (k n : ℕ) → newSays t k ≡ gives n → newLeaves t k ≡ holding t k []
+live-made = fresh-accepted
+
+pub live-refused : (t : List ℕ) (k n d : ℕ) → newSays t k ≡ refuses n d → newLeaves t k ≡ holding (recordBytes 0 0 0 0) 0 []
+live-refused = fresh-refused
+
+-- Request 7: "For every list of these calls from a fresh live line, the bytes are the model's and both facts are true of the model's list."
+pub live-runs : (t : List ℕ) (k : ℕ) (calls : List Call) → RunsAsModel t k calls
+live-runs = runs-as-model
+
+-- Request 7: "A refused call changes neither line nor model", of a live line that is filled by hand, too
+pub live-keeps : (h : LiveLine) (call : Call) (n d : ℕ) → callSays h call ≡ refuses n d → callLeaves h call ≡ h
+live-keeps = refused-keeps
 
 -- Beyond the demands: a table that passes may be lent up to its start record alone. It passes too, with the start record as its last, each call
 -- says and leaves the same by it, and Read needs no more work area

@@ -4,10 +4,10 @@ use Prim.Native.Nat.{_≤_, _<_}
 use mathlib.Core.Path.{_≡_}
 use Rattle.table.specs.Answers.{Said, gives, refuses}
 
--- a result of any size, or one of the refusals 1 to 18, but not 13 (document 02, request 6), and a detail below 2^32
+-- a result of any size, or one of the refusals 1 to 19, but not 13 (document 02, request 6), and a detail below 2^32
 abbrev pub Encodable : Said → Type 0
 Encodable (gives n) = Unit {0}
-Encodable (refuses n d) = (1 ≤ n) × (n ≤ 18) × ¬ (n ≡ 13) × (d < 4294967296)
+Encodable (refuses n d) = (1 ≤ n) × (n ≤ 19) × ¬ (n ≡ 13) × (d < 4294967296)
 
 -- a result below 2^32, or such a refusal
 abbrev pub Small : Said → Type 0

@@ -12,8 +12,11 @@ ghost use Rattle.tokens.specs.Listed.{tokensSays, tokensLeaves};
 ghost use Rattle.matcher.specs.Calls.{readSays, readLeaves, keepsWork};
 ghost use Rattle.matcher.specs.Demands.{Setting, NoneOutranks};
 ghost use Rattle.notation.specs.Calls.{compileSays, compileLeaves};
+ghost use Rattle.live.specs.Calls.{heardSays, newSays, newLeaves, addSays, addLeaves, takeBackSays, takeBackLeaves, isRefused};
 ghost use Rattle.order.specs.Verdicts.{verdictSays, orderSays};
 ghost use Rattle.trace.specs.Numbers.{Small, Encodable};
+use live::Heard;
+use live::LiveLine;
 use order::Pair;
 use order::Verdict;
 use table::Answer;
@@ -41,6 +44,18 @@ fn verdict_number(verdict: Verdict) -> u64
         Verdict::Kept(n) => n as u64,
         Verdict::Broken(i) => i as u64,
         Verdict::Refused(why) => number_of(Answer::Refused(why)),
+    }
+}
+
+// The same of the answer of a call on a live line: 1 where the line has a reading, and 2 more where some bytes behind it would make it a line that
+// has one.
+fn heard_number(heard: Heard) -> u64
+    requires { ⌜ Small (heardSays heard) ⌝ }
+    ensures { λ r. ⌜ r ≡ number (heardSays heard) ⌝ }
+{
+    match heard {
+        Heard::Known(facts) => (facts.reads as u64) + 2 * (facts.extends as u64),
+        Heard::Refused(why) => number_of(Answer::Refused(why)),
     }
 }
 
@@ -119,4 +134,41 @@ pub extern "C" fn trace_order(tokens: &[u8], pairs: &[Pair]) -> u64
     ensures { λ r. ⌜ r ≡ number (orderSays (now (tokens .entry)) (now (pairs .entry))) ⌝ }
 {
     verdict_number(order::order(tokens, pairs))
+}
+
+// A live line made afresh.
+#[no_mangle]
+pub extern "C" fn trace_live_new(line: &mut LiveLine, table: &[u8], start: u64) -> u64
+    ensures answer { λ r. ⌜ r ≡ number (newSays (now (table .entry)) start) ⌝ }
+    ensures line { λ _. ⌜ now (line .exit) ≡ newLeaves (now (table .entry)) start ⌝ }
+{
+    let made = LiveLine::new(table, start as usize);
+    *line = made.line;
+    number_of(made.answer)
+}
+
+// Add.
+#[no_mangle]
+pub extern "C" fn trace_live_add(line: &mut LiveLine, byte: u8, work: &mut [u8]) -> u64
+    ensures answer { λ r. ⌜ r ≡ number (addSays (now (line .entry)) byte (length (now (work .entry)))) ⌝ }
+    ensures line { λ _. ⌜ now (line .exit) ≡ addLeaves (now (line .entry)) byte (length (now (work .entry))) ⌝ }
+    ensures work { λ _.
+        ⌜ (isRefused (addSays (now (line .entry)) byte (length (now (work .entry)))) ≡ true → now (work .exit) ≡ now (work .entry)) ⌝ }
+{
+    let step = LiveLine::added(*line, byte, work);
+    *line = step.line;
+    heard_number(step.answer)
+}
+
+// Take back.
+#[no_mangle]
+pub extern "C" fn trace_live_take_back(line: &mut LiveLine, work: &mut [u8]) -> u64
+    ensures answer { λ r. ⌜ r ≡ number (takeBackSays (now (line .entry)) (length (now (work .entry)))) ⌝ }
+    ensures line { λ _. ⌜ now (line .exit) ≡ takeBackLeaves (now (line .entry)) (length (now (work .entry))) ⌝ }
+    ensures work { λ _.
+        ⌜ (isRefused (takeBackSays (now (line .entry)) (length (now (work .entry)))) ≡ true → now (work .exit) ≡ now (work .entry)) ⌝ }
+{
+    let step = LiveLine::taken_back(*line, work);
+    *line = step.line;
+    heard_number(step.answer)
 }

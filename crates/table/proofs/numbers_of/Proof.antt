@@ -55,6 +55,9 @@ enum-told-9 c = c .match .keys16
 enum-told-10 : tie.Need-enum-told-10
 enum-told-10 c = c .match .keys17
 
+enum-told-11 : tie.Need-enum-told-11
+enum-told-11 c = c .match .keys18
+
 returns : tie.Need-returns
 returns c = ap refusal (sym (c .enum-told .given .1))
 
@@ -106,6 +109,9 @@ returns-16 c = ap refusal (sym (c .enum-told9 .given .1))
 returns-17 : tie.Need-returns-17
 returns-17 c = ap refusal (sym (c .enum-told10 .given .1))
 
+returns-18 : tie.Need-returns-18
+returns-18 c = ap refusal (sym (c .enum-told11 .given .1))
+
 pub numbers-of-spec : {M : Type 1} → statement M
 numbers-of-spec =
     tie.close
@@ -127,6 +133,7 @@ numbers-of-spec =
     enum-told-8
     enum-told-9
     enum-told-10
+    enum-told-11
     returns
     returns-2
     returns-3
@@ -143,4 +150,5 @@ numbers-of-spec =
     returns-14
     returns-15
     returns-16
-    returns-17)
+    returns-17
+    returns-18)
