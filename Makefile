@@ -1,5 +1,5 @@
-.PHONY: all lib shared install uninstall install-files test outside outside-tests lacks tools example edges header program rules guide demo \
-        installed loaded manual pages referee-own referee-gate referee-stack referee-memory doubt soak bench bench-against
+.PHONY: all lib shared install uninstall install-files test outside outside-tests lacks tools example console edges header program rules guide \
+        demo installed loaded manual pages referee-own referee-gate referee-stack referee-memory doubt soak bench bench-against
 
 SHELL = bash
 .SHELLFLAGS = -o pipefail -c
@@ -76,7 +76,7 @@ test:
 
 # The tests outside Rattle, in their order. The gate counts each, and leaves out one that needs a command which is not there and cannot be
 # installed.
-OUTSIDE = lib example edges header program rules guide demo installed loaded manual pages referee-own referee-gate referee-stack referee-memory
+OUTSIDE = lib example console edges header program rules guide demo installed loaded manual pages referee-own referee-gate referee-stack referee-memory
 NEEDS_header = $(CXX)
 NEEDS_installed = pkg-config
 NEEDS_manual = man
@@ -103,9 +103,17 @@ demo:
 	@bash tests/demo.sh
 
 # The examples in C, compiled without a warning, and what they must print.
-example: $(LIB) | $(BUILD)
+example: $(LIB) $(BUILD)/console | $(BUILD)
 	@for name in commission rules parts; do $(CC) -std=c99 $(CFLAGS) examples/$$name.c $(LIB) -o $(BUILD)/$$name || exit 1; done
 	@bash tests/example.sh $(BUILD)
+
+# The test console on a pseudo-terminal: what it shows after each key, and the terminal after each end.
+$(BUILD)/console: examples/console.c include/trace.h $(LIB) | $(BUILD)
+	@$(CC) -std=c99 $(CFLAGS) $< $(LIB) -o $@
+
+console: $(BUILD)/console
+	@$(CC) $(CFLAGS) tests/pty.c -o $(BUILD)/pty
+	@$(BUILD)/pty $(BUILD)/console tests/console.script
 
 # Every refusal at its edge, through the calls for C.
 edges: $(LIB) | $(BUILD)
@@ -185,8 +193,8 @@ SEED = 7
 soak: lib $(REFEREE)
 	@$(REFEREE) soak $(SECONDS) $(SEED)
 
-# Our read and tokens against other matchers, each call by itself, the worst tables, our compile against theirs, and our order against one pass
-# over the names: times and ratios, in one run.
+# Our read and tokens against other matchers, each call by itself, the worst tables, one key of a live line against a read, our compile against
+# theirs, and our order against one pass over the names: times and ratios, in one run.
 bench: lib
 	@bash bench/run.sh
 

@@ -18,7 +18,7 @@ fail() { echo "bench: $*" >&2; exit 1; }
 build() {
     local flags="-O2 -Wall -Wextra -I$2/include -Ibench" library=$2/target/staticlib/libtrace.a program
     [ -f "$library" ] || fail "$library is missing: make lib"
-    $CC $flags bench/ours.c bench/loads.c "$library" -o "$OUT/$1-ours" && $CC $flags bench/worst.c "$library" -o "$OUT/$1-worst" || fail "build"
+    $CC $flags bench/ours.c bench/loads.c "$library" -o "$OUT/$1-ours" && $CC $flags bench/worst.c bench/tables.c "$library" -o "$OUT/$1-worst" || fail "build"
 }
 mkdir -p $OUT
 build other "$OTHER"

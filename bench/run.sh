@@ -1,10 +1,10 @@
 #!/bin/bash
-# Times our read + tokens against regular expression engines with capture groups, our calls one by one, the worst tables that are known, our
-# time against the line's length and the table's size, our compile against the regcomp of the engines that have one, and our order on a long list.
-# Run make lib first (make bench does).
+# Times our read + tokens against regular expression engines with capture groups, our calls one by one, the worst tables that are known, one key of a
+# live line against a read of it, our time against the line's length and the table's size, our compile against the regcomp of the engines that have
+# one, and our order on a long list. Run make lib first (make bench does).
 #   bash bench/run.sh             prints the tables
 #   bash bench/run.sh --markdown  prints the text of docs/BENCH.md and writes its pictures, docs/length.svg and docs/records.svg
-# With all peers it takes about 4 minutes. BENCH_MS: milliseconds of two repeats (200). BENCH_CUT: seconds until a peer is cut (10).
+# With all peers it takes about 5 minutes. BENCH_MS: milliseconds of two repeats (200). BENCH_CUT: seconds until a peer is cut (10).
 # Every peer is a process of its own: engines replace one another's symbols when they are linked together.
 set -u
 cd "$(dirname "$0")/.." || exit 1
@@ -27,7 +27,8 @@ version() { dpkg-query -W -f '${Version}' "$1" 2>/dev/null || echo "version not 
 mkdir -p $OUT/hs
 $CC $FLAGS -c bench/loads.c -o $OUT/loads.o && $CC $FLAGS bench/list.c $OUT/loads.o -o $OUT/list &&
     $CC $FLAGS bench/ours.c $OUT/loads.o $LIB -o $OUT/ours && $CC $FLAGS bench/posix.c $OUT/loads.o -o $OUT/glibc &&
-    $CC $FLAGS bench/worst.c $LIB -o $OUT/worst && $CC $FLAGS bench/order.c $LIB -o $OUT/order &&
+    $CC $FLAGS bench/worst.c bench/tables.c $LIB -o $OUT/worst && $CC $FLAGS bench/order.c $LIB -o $OUT/order &&
+    $CC $FLAGS bench/live.c bench/tables.c $OUT/loads.o $LIB -o $OUT/live &&
     $CC $FLAGS bench/compile.c $LIB -o $OUT/compile && $CC $FLAGS -DUSE_GLIBC bench/compile.c -o $OUT/compile-glibc || fail "build"
 peers=(glibc)
 compilers=(glibc)
@@ -197,6 +198,13 @@ peer_lists() {
 
 calls=(Check Read Spell Compare Tokens Order)
 worst_tables=$($OUT/worst) || fail "the worst tables"
+# the lines by which one key of a live line is timed: name for the program, bytes, records, name
+live_lines=$(
+    $OUT/list loads | head -n 3 | sed 's/^/load:/'
+    while read -r n records _ name; do
+        for bytes in 18 80 255; do echo "table:$n:$bytes $bytes $records ${name%,*}"; done
+    done <<<"$worst_tables"
+)
 for part in loads length records; do
     for n in $($OUT/list $part | cut -d' ' -f1); do first ours "$n"; done
 done
@@ -204,6 +212,10 @@ for n in 0 1 2; do
     for call in "${calls[@]}"; do first ours $n "$call"; done
 done
 for n in $(cut -d' ' -f1 <<<"$worst_tables"); do first worst "$n"; done
+for n in $(cut -d' ' -f1 <<<"$live_lines"); do
+    first live "$n" Key
+    first live "$n" Read
+done
 for n in $($OUT/compile | cut -d' ' -f1); do first compile "$n"; done
 for n in $($OUT/order | cut -d' ' -f1); do
     first order "$n"
@@ -215,8 +227,8 @@ if [ "$MARKDOWN" ]; then
 # Benchmark
 
 Our read + tokens against what a user would pick instead: regular expression engines with capture groups, one process for each. Below are
-refused lines, each call by itself, the worst tables, the time against the line's length and the table's size, our compile against the
-engines' own, and our order of tokens on a long list. To repeat it: \`make bench\` prints the tables, and
+refused lines, each call by itself, the worst tables, one key of a live line, the time against the line's length and the table's size, our compile
+against the engines' own, and our order of tokens on a long list. To repeat it: \`make bench\` prints the tables, and
 \`bash bench/run.sh --markdown >docs/BENCH.md\` writes this page and its pictures. glibc is always there; the Debian packages libtre-dev,
 libre2-dev, and ghc with libghc-regex-tdfa-dev bring the others.
 
@@ -295,9 +307,9 @@ for n in "${!names[@]}"; do
 done
 
 section "Worst tables" <<'END'
-The tables of up to 255 records that are known to take longest, on lines of 255 bytes, ours alone. The first five are as large as fits, on
-bytes a. The last is the slowest of 300 random tables of 255 records, the same 300 in each run, on lines of one or two letters; its number is shown,
-and whether its line is read or refused.
+The tables of up to 255 records that are known to take longest, on lines of 255 bytes, ours alone. Those by name are as large as fits. Their lines are
+bytes a, and for those that end in cd a d behind them, so that they are refused. The last is the slowest of 300 random tables of 255 records, the
+same 300 in each run, on lines of one or two letters; its number is shown, and whether its line is read or refused.
 END
 head=(table records bytes "ours µs" spread)
 wide=(28 7 5 8 7)
@@ -306,6 +318,20 @@ while read -r n records bytes name; do
     read -r ours spread < <(both worst "$n") || exit 1
     row "$(cell "$name")" "$records" "$bytes" "$(us "$ours")" "$(percent "$spread")"
 done <<<"$worst_tables"
+
+section "One key of a live line" <<'END'
+Add of a line's last byte to a live line that has the others, and Take back of it, the two together, against Read of the whole line: the ordinary
+lines, and the worst tables on the last 18, 80 and 255 bytes of their lines. The ratio is the key's time through that of Read. The search for bytes
+behind the line is made where it has no reading, so by the tables that end in cd; after their last byte no bytes are left that would do.
+END
+head=("line or table" bytes records "key µs" spread "Read µs" ratio)
+wide=(28 5 7 8 7 8 6)
+heading
+while read -r n bytes records name; do
+    read -r ours spread < <(both live "$n" Key) || exit 1
+    read -r whole _ < <(both live "$n" Read) || exit 1
+    row "$(cell "$name")" "$bytes" "$records" "$(us "$ours")" "$(percent "$spread")" "$(us "$whole")" "$(ratio "$ours" "$whole")"
+done <<<"$live_lines"
 
 section "Time against the line's length" <<'END'
 The rule of the short ordinary line, 50 records, on lines whose remark grows.

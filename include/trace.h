@@ -1,16 +1,18 @@
 /*
  * Trace line reader: cuts a line into named tokens by a table of regular expressions, by the POSIX rule. The table is written by hand, or made
- * from a text by trace_compile. trace_order says whether the tokens' names stand in the order that pairs of names ask for.
+ * from a text by trace_compile. trace_order says whether the tokens' names stand in the order that pairs of names ask for. A live line is one that
+ * is still being typed: after each byte trace_live_add says whether it has a reading, and whether it can still get one.
  *
  * Every call returns one 64-bit number: its result, or a refusal's number times 2^32 plus the refusal's detail. Take it apart with
  * trace_is_refused, trace_refusal and trace_detail. A result is below 2^32, but for that of trace_order on 2^32 tokens (12 GiB) and more.
  *
  * What the caller owes: a pointer with a length above 0 points to that many bytes, or pairs (one with length 0 may be null, or any address),
- * and a buffer that a call writes to (work, out) overlaps no other argument. Nothing else: every text, table, start number, line, reading,
- * token list, pair and length is taken, and the call comes to an end with its result or a refusal. The calls keep no state and allocate nothing;
- * several threads may call at once on buffers of their own. A call needs less than 1 MiB of stack.
+ * a pointer to a trace_live points to one, and what a call writes to (work, out, a trace_live) overlaps no other argument. Nothing else:
+ * every text, table, start number, line, live line, reading, token list, pair and length is taken, and the call comes to an end with its result or a
+ * refusal. The calls keep no state and allocate nothing; several threads may call at once on buffers and live lines of their own. A call needs less
+ * than 1 MiB of stack.
  *
- * The functions defined here are in no library: they are compiled into the caller, C99 or C++. The seven calls are in libtrace.a and
+ * The functions defined here are in no library: they are compiled into the caller, C99 or C++. The ten calls are in libtrace.a and
  * libtrace.so:
  *     cc tool.c $(pkg-config --cflags --libs trace)
  *
@@ -27,9 +29,9 @@
 extern "C" {
 #endif
 
-/* The version, as numbers and as text ("3.0.0"). Another major number says that a format or a call's result has changed. */
+/* The version, as numbers and as text ("3.1.0"). Another major number says that a format or a call's result has changed. */
 #define TRACE_VERSION_MAJOR 3
-#define TRACE_VERSION_MINOR 0
+#define TRACE_VERSION_MINOR 1
 #define TRACE_VERSION_PATCH 0
 #define TRACE_TEXT_OF(macro) TRACE_TEXT(macro)
 #define TRACE_TEXT(word) #word
@@ -92,7 +94,7 @@ extern "C" {
 #define TRACE_REFUSED_CHILD 5     /* child number not below its parent's */
 #define TRACE_REFUSED_NAMED 6     /* a child named twice, anywhere in the table */
 /* The line's. */
-#define TRACE_REFUSED_LINE 7      /* line over 255 bytes */
+#define TRACE_REFUSED_LINE 7      /* line over 255 bytes, or Add to one of 255 */
 #define TRACE_REFUSED_NO_READING 8 /* the start record does not spell the line */
 /* The caller's. */
 #define TRACE_REFUSED_START 9     /* start number not below the record count */
@@ -108,6 +110,8 @@ extern "C" {
 /* Those of trace_order. */
 #define TRACE_REFUSED_PAIRS 17    /* over 64 pairs */
 #define TRACE_REFUSED_TOKEN_BYTES 18 /* token list whose bytes are not a multiple of 3 */
+/* That of trace_live_take_back. */
+#define TRACE_REFUSED_EMPTY_LINE 19 /* Take back on a line without bytes */
 
 /* An answer taken apart. */
 static inline int trace_is_refused(uint64_t answer) { return (answer >> 32) != 0; }
@@ -137,6 +141,7 @@ static inline const char *trace_refusal_text(uint32_t refusal)
     case TRACE_REFUSED_RECORDS: return "the text's table has over 255 records";
     case TRACE_REFUSED_PAIRS: return "there are over 64 pairs of names";
     case TRACE_REFUSED_TOKEN_BYTES: return "the token list is not made of whole tokens of 3 bytes";
+    case TRACE_REFUSED_EMPTY_LINE: return "the line has no byte to take back";
     default: return "no refusal has this number";
     }
 }
@@ -146,7 +151,7 @@ static inline const char *trace_refusal_text(uint32_t refusal)
  * before the work area is looked at.
  */
 
-/* The work area that trace_read needs. */
+/* The work area that trace_read needs, and those of a live line for the bytes that it has after the call. */
 static inline size_t trace_work_size(size_t records, size_t line_len) { return records * (line_len + 1) * (line_len + 2) / 2; }
 
 /* A reading buffer that is always long enough. */
@@ -215,6 +220,42 @@ typedef struct { uint8_t first, second; } trace_pair;
  * is 17 exactly if pairs_len is above TRACE_MAX_PAIRS, and otherwise 18 exactly if tokens_len is not a multiple of TRACE_TOKEN.
  */
 uint64_t trace_order(const uint8_t *tokens, size_t tokens_len, const trace_pair *pairs, size_t pairs_len);
+
+/*
+ * A line that is still being typed, with a copy of its table. It begins with trace_live_new, and the two calls below alter it. The first table_len
+ * bytes of table and the first count bytes of bytes are the table and the line; on a line that these calls alone have filled the others are 0. The
+ * fields may be read at any time, and the line may be copied. A line that was filled by hand is taken too, and refused where it is out of order.
+ */
+typedef struct {
+    uint8_t table[TRACE_MAX_TABLE];
+    size_t table_len;
+    uint64_t start;
+    uint8_t bytes[TRACE_MAX_LINE];
+    size_t count;
+} trace_live;
+
+/* The two facts in a result of trace_live_add and trace_live_take_back. What has a reading can get one, so it is 0, 2 or 3. */
+#define TRACE_LIVE_READS 1        /* the line has a reading */
+#define TRACE_LIVE_EXTENDS 2      /* some bytes behind the line, of any number, none included, make it one that the start record spells */
+
+/*
+ * Makes a live line without bytes from a table and a start number, and holds a copy of both. What the struct held before is not looked at, and it
+ * is written whatever the answer is. Result: the table's number of records. Refusals, in this order: 1 to 6, 9; the line then has a table of one
+ * Nothing record, start number 0 and no bytes.
+ */
+uint64_t trace_live_new(trace_live *line, const uint8_t *table, size_t table_len, uint64_t start);
+
+/*
+ * Add puts a byte at the end of the line, Take back removes the last one. Result: the sum of the facts above, of the line as it then is. The bytes
+ * that the result speaks of are of any number: a line of 255 bytes that needs more of them extends too. The work area has at least
+ * trace_work_size(table_len / 4, the count after the call) bytes.
+ *
+ * Refusals, in this order: 1 to 6 (1 also for a table_len over TRACE_MAX_TABLE), 9, 7 for a count over TRACE_MAX_LINE; then 7 for Add at
+ * TRACE_MAX_LINE bytes and 19 for Take back on a line without bytes; 10. A refusal leaves the line and the work area as they were. After anything
+ * else the content of the work area is free. Take back leaves a 0 where the byte was; what else there is in the struct is kept.
+ */
+uint64_t trace_live_add(trace_live *line, uint8_t byte, uint8_t *work, size_t work_len);
+uint64_t trace_live_take_back(trace_live *line, uint8_t *work, size_t work_len);
 
 #ifdef __cplusplus
 }

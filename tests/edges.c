@@ -1,7 +1,8 @@
 /*
- * Every refusal of Read, Spell, Compare, Tokens, Compile and Order at its edge, with the answers that documents 01 and 02 state; buffers are
- * compared byte for byte. Readings with every wrong length and record number. Other at its bounds. Empty tagged parts, which are no tokens. Names
- * that must come first. And null pointers with length 0, in all seven calls.
+ * Every refusal of Read, Spell, Compare, Tokens, Compile, Order and the calls on a live line at its edge, with the answers that documents 01 and 02
+ * state; buffers and live lines are compared byte for byte. Readings with every wrong length and record number. Other at its bounds. Empty tagged
+ * parts, which are no tokens. Names that must come first. Live lines typed and filled by hand, and the places of their fields. And null pointers with
+ * length 0, in all ten calls.
  * Prints the number of answers, or the first one that is wrong.
  */
 #include <stdio.h>
@@ -222,10 +223,295 @@ static void letter(const char *name, Bytes table, Bytes held, Bytes missed)
     }
 }
 
+/* A live line between bytes of its own, all of them one pattern before it is made. */
+typedef struct { uint8_t ahead[16]; trace_live line; uint8_t behind[16]; } Fenced;
+static Fenced fenced;
+
+static void fence(uint8_t pattern)
+{
+    memset(&fenced, pattern, sizeof fenced);
+    memset(fenced.ahead, 0xcc, sizeof fenced.ahead);
+    memset(fenced.behind, 0xcc, sizeof fenced.behind);
+}
+
+static void wrong_line(const char *name, const char *what)
+{
+    printf("edges: %s: %s\n", name, what);
+    exit(1);
+}
+
+/* The live line has these fields, and the bytes beside it are kept. */
+static void expect_line(const char *name, const trace_live *want)
+{
+    const trace_live *line = &fenced.line;
+    if (memcmp(line->table, want->table, sizeof want->table) != 0)
+        wrong_line(name, "another table");
+    if (line->table_len != want->table_len || line->start != want->start || line->count != want->count)
+        wrong_line(name, "another table_len, start or count");
+    if (memcmp(line->bytes, want->bytes, sizeof want->bytes) != 0)
+        wrong_line(name, "other bytes");
+    for (size_t i = 0; i < sizeof fenced.ahead; i++)
+        if (fenced.ahead[i] != 0xcc || fenced.behind[i] != 0xcc)
+            wrong_line(name, "a byte beside the live line");
+}
+
+/* A live line made over each of three patterns: one that is refused is that of one Nothing record. */
+static void make(const char *name, Bytes table, uint64_t start, uint64_t want)
+{
+    static const uint8_t patterns[] = {0x00, 0xa5, 0xff};
+    trace_live line;
+    memset(&line, 0, sizeof line);
+    if (trace_is_refused(want)) {
+        line.table_len = TRACE_TABLE_RECORD;
+    } else {
+        memcpy(line.table, table.at, table.length);
+        line.table_len = table.length;
+        line.start = start;
+    }
+    for (size_t i = 0; i < sizeof patterns; i++) {
+        fence(patterns[i]);
+        expect(name, trace_live_new(&fenced.line, table.at, table.length, start), want);
+        expect_line(name, &line);
+    }
+}
+
+/* Add, or Take back where the key is this one. */
+enum { BACK = -1 };
+static uint8_t live_work[9000000];
+
+static uint64_t press(int key, uint8_t *work, size_t room)
+{
+    return key == BACK ? trace_live_take_back(&fenced.line, work, room) : trace_live_add(&fenced.line, (uint8_t)key, work, room);
+}
+
+/* One call on the live line. A refusal leaves every byte of it, and the work area; a call that is taken changes one byte and the count. */
+static void live(const char *name, int key, size_t room, uint64_t want)
+{
+    trace_live line = fenced.line;
+    uint8_t before[sizeof fenced];
+    int refused = trace_is_refused(want);
+    memcpy(before, &fenced, sizeof fenced);
+    memset(live_work, 0xdd, room + 64);
+    expect(name, press(key, live_work, room), want);
+    if (refused && memcmp(before, &fenced, sizeof fenced) != 0)
+        wrong_line(name, "a refusal that changes the live line");
+    if (!refused && key == BACK)
+        line.bytes[--line.count] = 0;
+    else if (!refused)
+        line.bytes[line.count++] = (uint8_t)key;
+    expect_line(name, &line);
+    for (size_t i = refused ? 0 : room; i < room + 64; i++)
+        if (live_work[i] != 0xdd)
+            wrong_line(name, "a byte of the work area");
+}
+
+/* A live line filled by hand; its spare bytes are a pattern. */
+static void fill(Bytes table, uint64_t start, size_t count, uint8_t byte)
+{
+    fence(0x5e);
+    memcpy(fenced.line.table, table.at, table.length);
+    fenced.line.table_len = table.length;
+    fenced.line.start = start;
+    memset(fenced.line.bytes, byte, count < TRACE_MAX_LINE ? count : TRACE_MAX_LINE);
+    fenced.line.count = count;
+}
+
+/* The work area for the bytes after the call, which is taken with exactly that, and refused with less. */
+static void taken(const char *name, int key, uint64_t want)
+{
+    size_t records = fenced.line.table_len / TRACE_TABLE_RECORD, need = trace_work_size(records, fenced.line.count + (key == BACK ? (size_t)-1 : 1));
+    live(name, key, need - 1, REFUSED(10, 0));
+    live(name, key, 0, REFUSED(10, 0));
+    live(name, key, need, want);
+}
+
+/* Both calls, with several work areas, on a live line that is refused whatever the call. */
+static void turned_away(const char *name, uint64_t want)
+{
+    static const size_t rooms[] = {0, 1, 1000, 400000};
+    for (size_t i = 0; i < sizeof rooms / sizeof *rooms; i++) {
+        live(name, 'a', rooms[i], want);
+        live(name, BACK, rooms[i], want);
+    }
+    expect(name, trace_live_add(&fenced.line, 0, NULL, 0), want);
+    expect(name, trace_live_take_back(&fenced.line, NULL, 0), want);
+}
+
+/* Types the keys, where < is Take back, on a fresh line; behind each key the answer is a digit, or - for 19. */
+static void type(const char *name, Bytes table, uint64_t start, const char *keys, const char *answers)
+{
+    make(name, table, start, table.length / TRACE_TABLE_RECORD);
+    for (size_t i = 0; keys[i]; i++) {
+        int key = keys[i] == '<' ? BACK : (uint8_t)keys[i];
+        if (answers[i] == '-')
+            live(name, key, 0, REFUSED(19, 0));
+        else
+            taken(name, key, (uint64_t)(answers[i] - '0'));
+    }
+}
+
+/* Where the fields stand: by the compiler, and by the bytes that the library writes. */
+static void live_layout(Bytes table, uint64_t start)
+{
+    static const size_t places[] = {0, 1024, 1032, 1040, 1296, 1304};
+    const uint8_t *raw = (const uint8_t *)&fenced.line;
+    uint64_t number;
+    expect("the place of table", offsetof(trace_live, table), places[0]);
+    expect("the place of table_len", offsetof(trace_live, table_len), places[1]);
+    expect("the place of start", offsetof(trace_live, start), places[2]);
+    expect("the place of bytes", offsetof(trace_live, bytes), places[3]);
+    expect("the place of count", offsetof(trace_live, count), places[4]);
+    expect("the size of a live line", sizeof(trace_live), places[5]);
+    fence(0xff);
+    trace_live_new(&fenced.line, table.at, table.length, start);
+    trace_live_add(&fenced.line, 'a', live_work, sizeof live_work);
+    trace_live_add(&fenced.line, 0xf1, live_work, sizeof live_work);
+    expect("table in its place", memcmp(raw + places[0], table.at, table.length) == 0, 1);
+    expect("0 behind the table", raw[places[0] + table.length] == 0 && raw[TRACE_MAX_TABLE - 1] == 0, 1);
+    expect("table_len in its place", (memcpy(&number, raw + places[1], 8), number), table.length);
+    expect("start in its place", (memcpy(&number, raw + places[2], 8), number), start);
+    expect("bytes in their place", raw[places[3]] == 'a' && raw[places[3] + 1] == 0xf1 && raw[places[3] + 2] == 0 && raw[places[3] + 254] == 0, 1);
+    expect("count in its place", (memcpy(&number, raw + places[4], 8), number), 2);
+}
+
+/* Live lines as they are made: accepted ones, and each refusal. */
+static void live_made(Bytes t1, Bytes longest)
+{
+    make("T1", t1, 9, 10);
+    make("T1, another start", t1, 0, 10);
+    uint8_t tagged[TRACE_MAX_TABLE];
+    memcpy(tagged, longest.at, sizeof tagged);
+    tagged[TRACE_MAX_TABLE - 1] = 9;
+    make("1,020 bytes", longest, 254, 255);
+    make("1,020 bytes, the last one 9", (Bytes){tagged, sizeof tagged}, 0, 255);
+    make("one record", BYTES(0, 0, 0, 9), 0, 1);
+    make("no byte", empty, 0, REFUSED(1, 0));
+    make("null", (Bytes){NULL, 0}, 0, REFUSED(1, 0));
+    make("3 bytes", BYTES(1, 0, 0), 0, REFUSED(1, 0));
+    make("1,021 bytes", (Bytes){live_work, 1021}, 0, REFUSED(1, 0));
+    make("1,024 bytes", (Bytes){live_work, 1024}, 0, REFUSED(1, 0));
+    make("a kind above 6", BYTES(1, 0, 0, 0, 7, 0, 0, 0), 0, REFUSED(2, 1));
+    make("an unused field", BYTES(1, 1, 0, 0), 0, REFUSED(3, 0));
+    make("bounds", BYTES(2, 5, 4, 0), 0, REFUSED(4, 0));
+    make("a child that is not below", BYTES(5, 0, 0, 0), 0, REFUSED(5, 0));
+    make("a child that is named twice", BYTES(1, 0, 0, 0, 3, 0, 0, 0), 0, REFUSED(6, 1));
+    make("start m", t1, 10, REFUSED(9, 0));
+    make("start 2^32 + 9", t1, (1ULL << 32) + 9, REFUSED(9, 0));
+    make("the largest start", t1, UINT64_MAX, REFUSED(9, 0));
+    make("2 before 9", BYTES(7, 0, 0, 0), 1, REFUSED(2, 0));
+    /* a refused line is one of a Nothing record: it has no reading and gets none */
+    live("a refused line, Take back", BACK, 0, REFUSED(19, 0));
+    taken("a refused line, Add", 'a', 0);
+    taken("a refused line, Take back", BACK, 0);
+}
+
+/* The facts, by each kind of record and where parts spell no line. */
+static void live_facts(Bytes t1, Bytes degrees)
+{
+    type("29C", degrees, 3, "<29Cx<<<<<C", "-22303222-3");
+    type("29C, a wrong byte first", degrees, 3, "C2<<x2C<<<", "3032000002");
+    type("29C by its Star", degrees, 1, "29C<<<", "330333");
+    type("29C by its letter", degrees, 0, "2<22<<", "323032");
+    type("T1", t1, 9, "abcb<acb<<<<<<", "33323300033333");
+    type("Empty", BYTES(1, 0, 0, 0), 0, "a<", "03");
+    type("Nothing", BYTES(0, 0, 0, 0), 0, "a<", "00");
+    type("an Other of no byte", BYTES(6, 0, 255, 0), 0, "a<", "00");
+    type("an Other of one byte", BYTES(6, 0, 254, 0), 0, "\xff<a<", "3202");
+    type("Nothing or a", BYTES(0, 0, 0, 0, 2, 'a', 'a', 0, 3, 0, 1, 0), 2, "a<b<", "3202");
+    type("a or Nothing", BYTES(0, 0, 0, 0, 2, 'a', 'a', 0, 3, 1, 0, 0), 2, "a<b<", "3202");
+    type("a, then Nothing", BYTES(0, 0, 0, 0, 2, 'a', 'a', 0, 4, 1, 0, 0), 2, "aa<<", "0000");
+    type("a, then no byte", BYTES(6, 0, 255, 0, 2, 'a', 'a', 0, 4, 1, 0, 0), 2, "aa<<", "0000");
+    type("Nothing, then a", BYTES(0, 0, 0, 0, 2, 'a', 'a', 0, 4, 0, 1, 0), 2, "a<", "00");
+    type("Nothing, any number of times", BYTES(0, 0, 0, 0, 5, 0, 0, 0), 1, "a<", "03");
+    type("a, then Nothing any number of times", BYTES(0, 0, 0, 0, 5, 0, 0, 0, 2, 'a', 'a', 0, 4, 2, 1, 0), 3, "aa<<", "3032");
+    type("x, then Nothing or a", BYTES(2, 'x', 'x', 0, 0, 0, 0, 0, 2, 'a', 'a', 0, 3, 1, 2, 0, 4, 0, 3, 0), 4, "xa<<y<", "232202");
+    type("a*, then Nothing", BYTES(2, 'a', 'a', 0, 5, 0, 0, 0, 0, 0, 0, 0, 4, 1, 2, 0), 3, "a<", "00");
+    type("ab, any number of times", BYTES(2, 'a', 'a', 0, 2, 'b', 'b', 0, 4, 0, 1, 0, 5, 2, 0, 0), 3, "aba<<<b", "2323230");
+    type("a, and b that nothing reaches", BYTES(2, 'a', 'a', 0, 2, 'b', 'b', 0), 0, "b<a", "023");
+    type("a byte above 127", BYTES(6, 1, 254, 0, 5, 0, 0, 0), 1, "\xff<\xff\x01<", "33303");
+}
+
+/* 7 at 255 bytes and 19 at none, both before 10; then 10, at every length. */
+static void live_lengths(Bytes t1, Bytes longest)
+{
+    Bytes any = BYTES(2, 0, 255, 0, 5, 0, 0, 0);
+    make("255 bytes", any, 1, 2);
+    for (int i = 0; i < 255; i++)
+        taken("up to 255 bytes", i, 3);
+    live("7 at 255 bytes", 0, 400000, REFUSED(7, 0));
+    live("7 at 255 bytes, no work area", 'a', 0, REFUSED(7, 0));
+    expect("7 at 255 bytes, null", trace_live_add(&fenced.line, 0, NULL, 0), REFUSED(7, 0));
+    for (int i = 0; i < 255; i++)
+        taken("down from 255 bytes", BACK, 3);
+    live("19 at no byte", BACK, 400000, REFUSED(19, 0));
+    live("19 at no byte, no work area", BACK, 0, REFUSED(19, 0));
+    expect("19 at no byte, null", trace_live_take_back(&fenced.line, NULL, 0), REFUSED(19, 0));
+    /* the largest work area, and the smallest, by 255 records */
+    fill(longest, 254, 254, 'a');
+    taken("255 records, 255 bytes", 'a', 0);
+    live("255 records, 7", 'a', 0, REFUSED(7, 0));
+    taken("255 records, 254 bytes", BACK, 0);
+    fill(longest, 254, 1, 'a');
+    taken("255 records, no byte", BACK, 2);
+    live("255 records, 19", BACK, 0, REFUSED(19, 0));
+    make("byte 0", BYTES(2, 1, 255, 0), 0, 1);
+    taken("byte 0", 0, 0);
+    make("byte 0 alone", BYTES(2, 0, 0, 0), 0, 1);
+    taken("byte 0 alone", 0, 3);
+    /* the bytes that are still needed may be more than the line has room for */
+    fill(t1, 3, 0, 0);
+    taken("ab, its a", 'a', 2);
+    taken("ab, its b", 'b', 3);
+}
+
+/* Live lines filled by hand: every field at its edge, and the order of the refusals. */
+static void live_by_hand(Bytes t1)
+{
+    static const size_t lengths[] = {0, 1, 2, 3, 5, 39, 41, 1019, 1021, 1024, (size_t)1 << 32, ((size_t)1 << 32) + 40, SIZE_MAX};
+    static const uint64_t starts[] = {10, 11, 255, 256, 265, 1ULL << 32, (1ULL << 32) + 9, UINT64_MAX};
+    static const size_t counts[] = {256, 257, 511, 512, (size_t)1 << 32, ((size_t)1 << 32) + 2, SIZE_MAX};
+    static const struct { size_t at; uint8_t byte, refusal, record; } faults[] = {
+        {0, 7, 2, 0}, {36, 255, 2, 9}, {38, 1, 3, 9}, {1, 98, 4, 0}, {33, 8, 5, 8}, {37, 9, 5, 9}, {30, 0, 6, 7}, {33, 6, 6, 8}};
+    for (size_t i = 0; i < sizeof lengths / sizeof *lengths; i++)
+        for (int all = 0; all < 2; all++) {
+            fill(t1, all ? 10 : 9, all ? 256 : 2, 'a');
+            fenced.line.table_len = lengths[i];
+            turned_away("table_len", REFUSED(1, 0));
+        }
+    for (size_t i = 0; i < sizeof faults / sizeof *faults; i++)
+        for (int all = 0; all < 2; all++) {
+            fill(t1, all ? 10 : 9, all ? 256 : 2, 'a');
+            fenced.line.table[faults[i].at] = faults[i].byte;
+            turned_away("table", REFUSED(faults[i].refusal, faults[i].record));
+        }
+    for (size_t i = 0; i < sizeof starts / sizeof *starts; i++)
+        for (int all = 0; all < 2; all++) {
+            fill(t1, starts[i], all ? 256 : 2, 'a');
+            turned_away("start", REFUSED(9, 0));
+        }
+    for (size_t i = 0; i < sizeof counts / sizeof *counts; i++) {
+        fill(t1, 9, counts[i], 'a');
+        turned_away("count", REFUSED(7, 0));
+    }
+    /* in order: the spare bytes are any, and are kept; 4 and 1,020 bytes of table; every count */
+    fill(BYTES(2, 'a', 'a', 0), 0, 0, 0);
+    taken("4 bytes of table", 'a', 3);
+    fill(t1, 9, 0, 0);
+    memset(fenced.line.table + t1.length, 0, TRACE_MAX_TABLE - t1.length);
+    fenced.line.table_len = TRACE_MAX_TABLE;
+    taken("1,020 bytes of table", 'a', 3);
+    for (size_t count = 1; count < TRACE_MAX_LINE; count += count < 250 ? 31 : 1) {
+        fill(t1, 9, count, 'a');
+        taken("every count, Add", 'b', 3);
+        taken("every count, Take back", BACK, 3);
+        taken("every count, Take back again", BACK, 3);
+    }
+}
+
 /*
  * Every choice of empty arguments, for each call: a null pointer with length 0 gets the answer of a valid pointer with length 0, and the
  * buffer is left the same. The bits of `empties`: 0 the table or the tokens, 1 the line or the reading, 2 the work area or the second reading, 3
- * the buffer or the pairs.
+ * the buffer or the pairs. The live line is the last one that was made.
  */
 static void nulls(Bytes table, uint64_t start, Bytes line, Bytes reading, Bytes rival)
 {
@@ -233,7 +519,7 @@ static void nulls(Bytes table, uint64_t start, Bytes line, Bytes reading, Bytes 
     static const uint8_t listed[] = {9, 0, 1};
     static const trace_pair pair[] = {{8, 9}};
     for (int empties = 0; empties < 16; empties++) {
-        uint64_t got[2][7];
+        uint64_t got[2][10];
         for (int null = 0; null < 2; null++) {
             uint8_t *at = null ? NULL : spare, *to = out[null];
             memset(to, 0xee, sizeof out[null]);
@@ -245,9 +531,12 @@ static void nulls(Bytes table, uint64_t start, Bytes line, Bytes reading, Bytes 
             got[null][4] = trace_tokens(ARG(0, table.at, table.length), start, ARG(1, reading.at, reading.length), ARG(3, to, 32));
             got[null][5] = trace_compile(ARG(1, line.at, line.length), ARG(3, to, 32));
             got[null][6] = trace_order(ARG(0, listed, sizeof listed), empties >> 3 & 1 ? (const trace_pair *)at : pair, empties >> 3 & 1 ? 0 : 1);
+            got[null][7] = trace_live_new(&fenced.line, ARG(0, table.at, table.length), start);
+            got[null][8] = trace_live_add(&fenced.line, 'a', ARG(2, work, sizeof work));
+            got[null][9] = trace_live_take_back(&fenced.line, ARG(2, work, sizeof work));
 #undef ARG
         }
-        for (int call = 0; call < 7; call++)
+        for (int call = 0; call < 10; call++)
             expect("null with length 0", got[1][call], got[0][call]);
         expect_buffer("null with length 0", out[1], sizeof out[1], (Bytes){out[0], sizeof out[0]});
     }
@@ -679,6 +968,13 @@ int main(void)
     order("a million tokens and 65 pairs", long_list, over, REFUSED(17, 0));
     free(million);
     very_many_tokens(lift);
+
+    /* live lines; of comb a byte is still wanted at no byte, and none after it */
+    live_layout(t1, 9);
+    live_made(t1, (Bytes){comb, sizeof comb});
+    live_facts(t1, degrees);
+    live_lengths(t1, (Bytes){comb, sizeof comb});
+    live_by_hand(t1);
 
     /* null pointers: with a line, and where an empty line and an empty buffer are no refusal */
     nulls(t1, 9, abc, c, c);

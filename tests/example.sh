@@ -1,6 +1,7 @@
 #!/usr/bin/env bash
 # example.sh FOLDER: what the example commissioning tool, in this folder, prints for its sample input, and its exit statuses; those of the example
-# that tries a rule on a line; and what the one that shows the parts of a line prints. Run from the repository's root.
+# that tries a rule on a line; what the one that shows the parts of a line prints; and what the test console says where it cannot begin. Run from the
+# repository's root.
 set -uo pipefail
 fail() {
     echo "example: $1"
@@ -42,4 +43,17 @@ record 0: offset 0, length 1: 2
 record 0: offset 1, length 1: 9
 record 2: offset 2, length 1: C
 END
+
+# turns_away STATUS TEXT ARGUMENT..: the test console, without a terminal
+turns_away() {
+    says=$("$console" "${@:3}" 2>&1 </dev/null)
+    status=$?
+    [ "$status" -eq "$1" ] && [ "$says" = "$2" ] || fail "the console gives status $status and '$says'"
+}
+console=$1/console
+turns_away 2 'usage: console RULE'
+turns_away 2 'usage: console RULE' a b
+turns_away 1 'console: the rule is refused: the text is outside the notation, or over 4,096 bytes long' '(a'
+turns_away 1 "console: the rule is refused: the text's table has over 255 records" "$(printf 'a%.0s' {1..129})"
+turns_away 2 'console: its input and output must be a terminal; tracecut cuts the lines of a file' a
 echo "example: ok"

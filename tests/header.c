@@ -1,6 +1,6 @@
 /*
- * The header's own functions and its struct, in C and in C++: version, answers taken apart, refusals in words, sizes, pairs. Exit status 0 if all
- * is right.
+ * The header's own functions and its structs, in C and in C++: version, answers taken apart, refusals in words, sizes, pairs, live lines. Exit status
+ * 0 if all is right.
  */
 #include <stdio.h>
 #include <string.h>
@@ -27,7 +27,7 @@ static void version(void)
 /* Each number from 0 to one past the last refusal has a text of its own, and all later ones have that of the first of them. */
 static void texts(void)
 {
-    uint32_t i, j, end = TRACE_REFUSED_TOKEN_BYTES + 1;
+    uint32_t i, j, end = TRACE_REFUSED_EMPTY_LINE + 1;
     for (i = 0; i <= end; i++)
         for (j = 0; j < i; j++)
             expect("two numbers with one text", strcmp(trace_refusal_text(i), trace_refusal_text(j)) != 0);
@@ -67,6 +67,29 @@ static void pairs(void)
     expect("part of a token", trace_refusal(trace_order(kept, 4, pair, 1)) == TRACE_REFUSED_TOKEN_BYTES);
 }
 
+/* The places of the fields are those of the library, and its calls go by them. */
+static void live_lines(void)
+{
+    static const uint8_t table[] = {TRACE_RANGE, 'a', 'a', 0, TRACE_RANGE, 'b', 'b', 0, TRACE_SEQ, 0, 1, 0};
+    trace_live line;
+    uint8_t work[18];
+    expect("the places of a live line's fields", offsetof(trace_live, table) == 0 && offsetof(trace_live, table_len) == 1024
+           && offsetof(trace_live, start) == 1032 && offsetof(trace_live, bytes) == 1040 && offsetof(trace_live, count) == 1296
+           && sizeof(trace_live) == 1304);
+    expect("the facts", TRACE_LIVE_READS == 1 && TRACE_LIVE_EXTENDS == 2 && sizeof work == trace_work_size(3, 2));
+    expect("a live line", trace_live_new(&line, table, sizeof table, 2) == 3 && line.table_len == sizeof table && line.start == 2 && line.count == 0
+           && memcmp(line.table, table, sizeof table) == 0);
+    expect("nothing to take back", trace_refusal(trace_live_take_back(&line, work, sizeof work)) == TRACE_REFUSED_EMPTY_LINE);
+    expect("a line that can get a reading", trace_live_add(&line, 'a', work, 9) == TRACE_LIVE_EXTENDS);
+    expect("a short work area", trace_refusal(trace_live_add(&line, 'b', work, sizeof work - 1)) == TRACE_REFUSED_WORK);
+    expect("a line that has one", trace_live_add(&line, 'b', work, sizeof work) == (TRACE_LIVE_READS | TRACE_LIVE_EXTENDS));
+    expect("its bytes", line.count == 2 && line.bytes[0] == 'a' && line.bytes[1] == 'b');
+    expect("a byte that is taken back", trace_live_take_back(&line, work, 9) == TRACE_LIVE_EXTENDS && line.count == 1 && line.bytes[1] == 0);
+    line.count = TRACE_MAX_LINE + 1;
+    expect("a line filled by hand", trace_refusal(trace_live_add(&line, 'b', work, sizeof work)) == TRACE_REFUSED_LINE);
+    expect("a start number", trace_refusal(trace_live_new(&line, table, sizeof table, 3)) == TRACE_REFUSED_START && line.table_len == TRACE_TABLE_RECORD);
+}
+
 static void sizes(void)
 {
     expect("the work area's size", trace_work_size(10, 3) == 100 && trace_work_size(255, 255) == 8388480 && trace_work_size(1, 0) == 1);
@@ -81,6 +104,7 @@ int main(void)
     texts();
     answers();
     pairs();
+    live_lines();
     sizes();
     return bad;
 }

@@ -1,5 +1,5 @@
 /*
- * loaded LIBRARY: opens the shared library at run time and makes each of the seven calls through it. Exit status 0 if every answer is right.
+ * loaded LIBRARY: opens the shared library at run time and makes each of the ten calls through it. Exit status 0 if every answer is right.
  */
 #include <dlfcn.h>
 #include <stdio.h>
@@ -42,6 +42,10 @@ int main(int count, char **arguments)
     uint64_t (*tokens)(const uint8_t *, size_t, uint64_t, const uint8_t *, size_t, uint8_t *, size_t);
     uint64_t (*compile)(const uint8_t *, size_t, uint8_t *, size_t);
     uint64_t (*order)(const uint8_t *, size_t, const trace_pair *, size_t);
+    uint64_t (*live_new)(trace_live *, const uint8_t *, size_t, uint64_t);
+    uint64_t (*live_add)(trace_live *, uint8_t, uint8_t *, size_t);
+    uint64_t (*live_take_back)(trace_live *, uint8_t *, size_t);
+    trace_live typed;
     uint8_t work[100], reading[120], listed[90], line[3], made[TRACE_MAX_TABLE];
     void *library = dlopen(count == 2 ? arguments[1] : "", RTLD_NOW | RTLD_LOCAL);
     if (library == NULL) {
@@ -55,6 +59,9 @@ int main(int count, char **arguments)
     find(library, "trace_tokens", &tokens);
     find(library, "trace_compile", &compile);
     find(library, "trace_order", &order);
+    find(library, "trace_live_new", &live_new);
+    find(library, "trace_live_add", &live_add);
+    find(library, "trace_live_take_back", &live_take_back);
 
     expect("check", check(table, sizeof table) == 10);
     expect("read", read(table, sizeof table, 9, (const uint8_t *)"abc", 3, work, sizeof work, reading, sizeof reading) == 8);
@@ -69,6 +76,11 @@ int main(int count, char **arguments)
     expect("compile", compile((const uint8_t *)"(bc)*#002", 9, made, sizeof made) == 4
                           && memcmp(made, "\2bb\0\2cc\0\4\0\1\0\5\2\0\2", 16) == 0);
     expect("a text that is refused", trace_refusal(compile((const uint8_t *)"(bc", 3, made, sizeof made)) == TRACE_REFUSED_TEXT);
+    expect("a live line", live_new(&typed, table, sizeof table, 9) == 10);
+    expect("add", live_add(&typed, 'b', work, sizeof work) == TRACE_LIVE_EXTENDS && live_add(&typed, 'b', work, sizeof work) == 0);
+    expect("take back", live_take_back(&typed, work, sizeof work) == TRACE_LIVE_EXTENDS && typed.count == 1 && typed.bytes[0] == 'b');
+    expect("add again", live_add(&typed, 'c', work, sizeof work) == (TRACE_LIVE_READS | TRACE_LIVE_EXTENDS));
+    expect("a byte that is refused", trace_refusal(live_add(&typed, 'a', work, 99)) == TRACE_REFUSED_WORK && typed.count == 2);
     dlclose(library);
     return 0;
 }

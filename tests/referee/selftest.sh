@@ -195,4 +195,67 @@ done <<'LIST'
 164 gate Spell does not look at lengths and record numbers
 165 gate Tokens does not look at lengths and record numbers
 166 gate Compare does not look at the lengths and record numbers of the first
+167 live Add: drops the byte at 254 bytes
+168 live Take back: leaves the byte where it was
+169 live the facts are those of the line before the call
+170 live a line that no further byte completes is not told to be complete
+171 live a Seq whose second part spells nothing is taken for one that can be completed
+172 live refusal 10 goes by the bytes before the call
+173 live Take back: 10 comes before 19
+174 live Add: a refused one empties the line
+175 live New: a refused one keeps the table
+176 live Take back: leaves the count
+177 live New: leaves what stood behind the table
+178 live New: leaves the bytes of the line before
+179 live New: a refused one leaves the struct
+180 live New: a refused one has a table of 0 bytes
+181 live New: a refused one keeps the start number
+182 live Take back: clears one byte more
+183 live a line that can get a reading is told to have one
+184 live every line is told to get a reading
+185 live only a line that has a reading is told to get one
+186 live an Other that holds no byte is taken for one that does
+187 live a Star of what spells nothing is taken for one that cannot be completed
+188 live the second side of an Or does not complete a line
+189 live Take back: removes the first byte
+190 live Add: puts the byte in front
+191 live Add: takes a byte at 255 and leaves it out
+192 live Take back: 10 comes before 7
+193 live a table_len over 1,020 is taken for 1,020
+194 live the start number of a line filled by hand is not looked at
+195 live the table of a line filled by hand is not checked
+196 live Add: refusal 10 writes the byte
+197 live Add: refusal 10 changes the work area
+198 live one byte behind the work area is written
+199 live Take back: asks for the work area of the bytes before the call
+200 live a work area that is one byte short is taken
+201 live Take back: 19 comes at 1 byte
+202 live Take back: a line of 255 bytes is refused
+203 live Add: 10 comes before 7
+204 live Add: clears the byte behind the new one
+205 live Add: clears the byte behind the table
+206 live the last record is taken for the start record
+207 live New: the result is 0
+208 live the two facts change places
+209 live the byte 0 is passed over
+210 live bytes are compared by 7 bits
+211 live a line of 255 bytes is told not to get a reading
+212 live a line that has a reading is not told to get one
+213 live every empty line is told to have a reading
+214 live 7 comes before 1 to 6 and 9
+215 live New: changes the table that it is lent
+216 valgrind New: looks at the count that the struct held
+217 valgrind New: reads past the end of the table
+218 live New: leaves the count
+219 live New: leaves out the last byte of a table of 1,020
+220 live 10 is not looked for where the call leaves no byte
+221 live New: the start number is 0
+222 live 10 is not looked for at 255 bytes
+223 live the work area is the records times the bytes and 1
+224 live a work area of exactly the size is refused
+225 stack Add: takes 8 KiB of stack for each byte
+226 live Add: 10 in place of 7 at 255 bytes
+227 live Take back: 7 in place of 19
+228 live Take back: refusal 19 has a detail
+229 live Take back: refusal 10 clears the byte
 LIST

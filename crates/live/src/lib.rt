@@ -124,6 +124,7 @@ fn find_facts(table: &[u8], start: usize, line: &[u8], work: &mut [u8]) -> Facts
 
 // The new live line with its facts, or the old one with refusal 10.
 fn settle(old: LiveLine, new: LiveLine, work: &mut [u8]) -> Step
+    requires { ⌜ Held old ⌝ }
     requires { ⌜ Held new ⌝ }
     ensures { λ r. ⌜ Answered (lineSays new (length (now (work .entry)))) old new (r .line) (r .answer) (now (work .entry)) (now (work .exit)) ⌝ }
 {

@@ -2,23 +2,15 @@
 -- Assumes nothing.
 use Prim.Native.Nat.{ℕ, _+_, _-_, _≤_, _<_}
 use native.Mathlib.Omega.{arith}
-use mathlib.Core.Path.{_≡_, refl, sym, _∙_, subst}
+use mathlib.Core.Path.{_≡_, sym, _∙_, subst}
 use mathlib.Core.Bool.{Bool, true, false, true≢false}
 use mathlib.Core.Logic.{_⊎_, inl, inr, ⊎-elim}
 use mathlib.Core.List.{List}
-use lib.Dec.{ltb}
-use borrow.Author.Tests.{ltb-true, ltb-false}
 use Rattle.marks.specs.Marks.{marked, MarkedAll, NextMarked}
 use Rattle.marks.proofs.Laws.{marked-as, marked-none, marked-then}
 use Rattle.rows.specs.Layout.{tells}
+use Rattle.rows.proofs.Cuts.{below-or}
 use Rattle.reach.specs.Reaching.{place, If, RestOf, RestOfRow}
-
-below-or-not : (x y : ℕ) → (x < y) ⊎ (y ≤ x)
-below-or-not x y = go (ltb x y) refl
-  where
-    go : (b : Bool) → ltb x y ≡ b → (x < y) ⊎ (y ≤ x)
-    go true e = inl (ltb-true x y e)
-    go false e = inr (ltb-false x y e)
 
 -- the numbers of P where the test is true
 pub marked-if : {P : ℕ → Type 0} {ws ws′ : List ℕ} {b : Bool} → b ≡ true → MarkedAll P ws ws′ → MarkedAll (If b P) ws ws′
@@ -33,8 +25,8 @@ pub record RestBelow (n m : ℕ) (w : List ℕ) (of to d i : ℕ) : Type 0 where
   pub below : one .cut < n
 
 module _ {m : ℕ} {w : List ℕ} {of to d : ℕ} {us : List ℕ} where
-  pub rests-none : MarkedAll (RestBelow 0 m w of to d) us us
-  rests-none = marked-none (λ j p. omega (arith, p .below))
+  pub rests-none : {e : ℕ} → e ≤ 0 → MarkedAll (RestBelow e m w of to d) us us
+  rests-none l = marked-none (λ j p. omega (arith, p .below))
 
   pub rests-more :
       (e : ℕ) {vs ws : List ℕ} {b : Bool} → e ≤ d → MarkedAll (RestBelow e m w of to d) us vs → b ≡ tells m w of d e
@@ -53,7 +45,7 @@ module _ {m : ℕ} {w : List ℕ} {of to d : ℕ} {us : List ℕ} where
             subst (λ (c : ℕ). tells m w of d c ≡ true) same (x .one .told),
             subst (λ (c : ℕ). j ≡ place to (d - c)) same (x .one .number),
           ))
-          (below-or-not (x .one .cut) e)
+          (below-or (x .one .cut) e)
 
       earlier : (j : ℕ) → RestBelow e m w of to d j → RestBelow (e + 1) m w of to d j
       earlier j x = record { one = x .one; below = omega (arith, x .below) }
@@ -95,8 +87,8 @@ module _ {m : ℕ} {w row : List ℕ} {n of to : ℕ} {us : List ℕ} where
             subst (λ (c : ℕ). RestOf m w of to c j) same (x .one .behind),
           ))
           (λ (g : d + 1 ≤ x .one .left). absurd (true≢false (sym (x .one .there) ∙ r .passed (x .one .left) g (x .below))))
-          (below-or-not (x .one .left) (d + 1)))
-          (below-or-not (x .one .left) d)
+          (below-or (x .one .left) (d + 1)))
+          (below-or (x .one .left) d)
 
       earlier : (j : ℕ) → RowBelow d m w row n of to j → RowBelow e m w row n of to j
       earlier j x = record { one = x .one; below = omega (arith, x .below, r .not-before) }

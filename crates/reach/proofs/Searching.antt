@@ -7,9 +7,7 @@ use mathlib.Core.Path.{_≡_, refl, sym, ap, _∙_, subst}
 use mathlib.Core.Bool.{Bool, true, false, _&&_, _||_, true≢false}
 use mathlib.Core.Logic.{_⊎_, inl, inr, ⊎-elim}
 use mathlib.Core.List.{List}
-use lib.Dec.{ltb}
 use lib.ListN.{length, getD, replicate}
-use borrow.Author.Tests.{ltb-true, ltb-false}
 use Rattle.regex.specs.Extends.{holdsSome, extends}
 use Rattle.regex.proofs.Extends.{seq-some}
 use Rattle.table.specs.Records.{count, kindAt, aAt, bAt}
@@ -20,6 +18,7 @@ use Rattle.table.proofs.Laws.{exp-nothing, exp-empty, exp-letter, exp-or, exp-s
 use Rattle.table.proofs.Passing.{a-below, b-below, star-a-below, kind-nothing, letter-at}
 use Rattle.marks.specs.Marks.{marked, MarkedAll, MarkedToo}
 use Rattle.marks.proofs.Laws.{unmarked-bit}
+use Rattle.rows.proofs.Cuts.{below-or}
 use Rattle.area.proofs.Parts.{part-line}
 use Rattle.reach.specs.Reaching.{goesOn, place, If, spellsSome, SomeFound, Alive, Visited, Reaching}
 
@@ -46,11 +45,7 @@ not-true true n = absurd (n refl)
 not-true false n = refl
 
 below-or-same : (j k : ℕ) → j < k + 1 → (j < k) ⊎ (j ≡ k)
-below-or-same j k l = go (ltb j k) refl
-  where
-    go : (b : Bool) → ltb j k ≡ b → (j < k) ⊎ (j ≡ k)
-    go true e = inl (ltb-true j k e)
-    go false e = inr (omega (arith, ltb-false j k e))
+below-or-same j k l = ⊎-elim (λ (h : j < k). inl h) (λ (h : k ≤ j). inr (omega arith)) (below-or j k)
 
 -- record k is marked where it spells some line
 pub some-more :

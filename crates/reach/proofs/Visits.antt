@@ -10,7 +10,7 @@ use mathlib.Core.Logic.{_⊎_, inl, inr, ⊎-elim}
 use mathlib.Core.List.{List}
 use lib.Dec.{leb}
 use lib.ListN.{length, getD}
-use borrow.Author.Tests.{le-leb, leb-true, leb-false}
+use borrow.Author.Tests.{le-leb, leb-true}
 use Rattle.regex.specs.Expressions.{holds}
 use Rattle.regex.specs.Extends.{holdsSome}
 use Rattle.regex.proofs.Spells.{either, each, or-second}
@@ -21,6 +21,7 @@ use Rattle.marks.proofs.Laws.{marked-inside, marked-then}
 use Rattle.table.proofs.Passing.{count-bound}
 use Rattle.rows.specs.Rows.{Inside}
 use Rattle.rows.proofs.Places.{row-held}
+use Rattle.rows.proofs.Cuts.{below-or}
 use Rattle.reach.specs.Reaching.{goesOn, place, spellsSome, Known, RowOf, RestOf, RestOfRow, Alive, Visiting, letterFound, Visited}
 use Rattle.reach.proofs.Rests.{nothing-on, empty-on, empty-on-only, letter-on-none, letter-on-one, letter-on-only, or-a, or-b, or-on-a, or-on-b, or-on-only, CutOn, seq-a, seq-b, seq-on-first, seq-on-cut, seq-on-only, star-a, star-on-none, star-on-cut, star-on-only}
 
@@ -34,14 +35,7 @@ row-number row to j d size l (above, there) =
     let number : place j d - 64 * (4 * to) ≡ d = omega arith in
     (same, subst (λ (i : ℕ). marked row i ≡ true) number there))
     (λ (x : 256 ≤ place j d - 64 * (4 * to)). absurd (marked-inside row (place j d - 64 * (4 * to)) (omega arith) there))
-    (below (place j d - 64 * (4 * to)))
-  where
-    below : (x : ℕ) → (x < 256) ⊎ (256 ≤ x)
-    below x = go (leb 256 x) refl
-      where
-        go : (b : Bool) → leb 256 x ≡ b → (x < 256) ⊎ (256 ≤ x)
-        go true e = inr (leb-true 256 x e)
-        go false e = inl (leb-false 256 x e)
+    (below-or (place j d - 64 * (4 * to)) 256)
 
 number-row : (row : List ℕ) (to d : ℕ) → marked row d ≡ true → FromWord (4 * to) row (place to d)
 number-row row to d there =
@@ -316,6 +310,9 @@ module _ {t s w : List ℕ} {k : ℕ} {ws row : List ℕ} (v : Visiting t s w k 
           (seq-on-only (v .known) k (v .inside) z (x .left) (x .within) (x .on))
 
   -- Star
+  pub star-first : {a : ℕ} → kindAt t k ≡ 5 → a ≡ aAt t k → a < k
+  star-first z e = omega (arith, star-a (v .known) k (v .inside) z)
+
   pub star-found : kindAt t k ≡ 5 → marked row 0 ≡ true → Visited t s k ws ws true
   star-found z m = at-rest true (λ e. row-alive 0 (omega arith) m (star-on-none (v .known) k (v .inside) z)) (λ x. refl)
 

@@ -229,22 +229,6 @@ start-extends (star r) s u l =
 pub extends-complete : (r : Exp) (s : List ℕ) → Extends r s → extends r s ≡ true
 extends-complete r s x = start-extends r s (x .more) (x .spelled)
 
--- where no bytes make the line one of L the decision is false
-pub extends-false : (r : Exp) (s : List ℕ) → ¬ (Extends r s) → extends r s ≡ false
-extends-false r s n = go (extends r s) (λ e. n (extends-sound r s e))
-  where
-    go : (b : Bool) → ¬ (b ≡ true) → b ≡ false
-    go true h = absurd (h refl)
-    go false h = refl
-
--- Extends is decided
-pub Extends-decided : (r : Exp) (s : List ℕ) → Dec (Extends r s)
-Extends-decided r s = go (extends r s) refl
-  where
-    go : (b : Bool) → extends r s ≡ b → Dec (Extends r s)
-    go true e = yes (extends-sound r s e)
-    go false e = no (λ x. true≢false (sym (extends-complete r s x) ∙ e))
-
 -- a line that the decision spells extends
 pub spells-extends : (r : Exp) (s : List ℕ) → spells r s ≡ true → extends r s ≡ true
 spells-extends r s h = extends-complete r s (spelled-extends r s (spells-sound r s h))

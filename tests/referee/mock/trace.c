@@ -619,3 +619,197 @@ uint64_t trace_order(const uint8_t *tokens, size_t tokens_len, const pair *pairs
     }
     return first_to_break(tokens, count, pairs, n);
 }
+
+/* A live line, by an automaton with two states for each record: before it, 2 k, and behind it, 2 k + 1. */
+typedef struct { uint8_t table[1020]; size_t table_len; uint64_t start; uint8_t bytes[255]; size_t count; } live;
+typedef struct { tab t; size_t start; int parent[256]; uint8_t ends[512]; } nfa;
+
+static int holds_any(tab t, size_t k) {
+    if (FAULT == 186 && kind(t, k) == 6) return 1;
+    for (int c = 0; c < 256; c++) if (holds(t, k, (uint8_t)c)) return 1;
+    return 0;
+}
+
+/* The moves without a byte from a state, at most two. */
+static int moves(const nfa *a, size_t s, size_t to[2]) {
+    size_t k = s / 2, p;
+    if (s % 2 == 0) {
+        to[0] = kind(a->t, k) == 1 ? s + 1 : 2 * fa(a->t, k);
+        to[1] = kind(a->t, k) == 5 ? s + 1 : 2 * fb(a->t, k);
+        switch (kind(a->t, k)) {
+        case 1: case 4: return 1;
+        case 3: case 5: return 2;
+        default: return 0;
+        }
+    }
+    if (k == a->start || a->parent[k] < 0) return 0;
+    p = (size_t)a->parent[k];
+    to[0] = kind(a->t, p) == 4 && k == fa(a->t, p) ? 2 * fb(a->t, p) : 2 * p + 1;
+    to[1] = 2 * k;
+    return kind(a->t, p) == 5 ? 2 : 1;
+}
+
+/* Whether a state is one from which the end can be reached, by those that are known. */
+static int leads(const nfa *a, size_t s) {
+    size_t to[2], k = s / 2;
+    if (s % 2 == 0 && letter(a->t, k)) return holds_any(a->t, k) && a->ends[s + 1];
+    if (FAULT == 171 && s % 2 && a->parent[k] >= 0 && kind(a->t, (size_t)a->parent[k]) == 4) return a->ends[2 * a->parent[k] + 1];
+    if (FAULT == 187 && s % 2 == 0 && kind(a->t, k) == 5) return a->ends[2 * fa(a->t, k)];
+    for (int i = moves(a, s, to) - 1; i >= 0; i--) {
+        if (FAULT == 188 && s % 2 == 0 && kind(a->t, k) == 3 && i == 1) continue;
+        if (a->ends[to[i]]) return 1;
+    }
+    return 0;
+}
+
+static void build(nfa *a, tab t, size_t start) {
+    int more = 1;
+    a->t = t;
+    a->start = start;
+    memset(a->ends, 0, sizeof a->ends);
+    for (size_t k = 0; k < 256; k++) a->parent[k] = -1;
+    for (size_t k = 0; k < t.m; k++) {
+        if (kind(t, k) >= 3 && kind(t, k) <= 5) a->parent[fa(t, k)] = (int)k;
+        if (kind(t, k) == 3 || kind(t, k) == 4) a->parent[fb(t, k)] = (int)k;
+    }
+    a->ends[2 * start + 1] = 1;
+    while (more) {
+        more = 0;
+        for (size_t s = 0; s < 2 * t.m; s++) if (!a->ends[s] && leads(a, s)) more = a->ends[s] = 1;
+    }
+}
+
+static void close_set(const nfa *a, uint8_t *set) {
+    size_t open[512], count = 0, to[2];
+    for (size_t s = 0; s < 2 * a->t.m; s++) if (set[s]) open[count++] = s;
+    while (count > 0) {
+        size_t s = open[--count];
+        for (int i = moves(a, s, to) - 1; i >= 0; i--) if (!set[to[i]]) { set[to[i]] = 1; open[count++] = to[i]; }
+    }
+}
+
+static void step(const nfa *a, uint8_t *set, uint8_t c) {
+    uint8_t next[512] = {0};
+    for (size_t k = 0; k < a->t.m; k++) if (set[2 * k] && letter(a->t, k) && holds(a->t, k, c)) next[2 * k + 1] = 1;
+    memcpy(set, next, sizeof next);
+    close_set(a, set);
+}
+
+/* Fault 170: a state from which the end can be reached by one byte or more. */
+static int goes_on(const nfa *a, const uint8_t *set) {
+    for (size_t k = 0; k < a->t.m; k++) if (set[2 * k] && letter(a->t, k) && leads(a, 2 * k)) return 1;
+    return 0;
+}
+
+static uint64_t facts(tab t, size_t start, const uint8_t *s, size_t n) {
+    nfa a;
+    uint8_t set[512] = {0};
+    uint64_t reads, extends = 0;
+    build(&a, t, FAULT == 206 || start >= t.m ? t.m - 1 : start);
+    set[2 * a.start] = 1;
+    close_set(&a, set);
+    for (size_t i = 0; i < n; i++) if (FAULT != 209 || s[i]) step(&a, set, FAULT == 210 ? s[i] & 127 : s[i]);
+    reads = set[2 * a.start + 1];
+    for (size_t k = 0; k < 2 * t.m; k++) if (set[k] && a.ends[k]) extends = 1;
+    switch (FAULT) {
+    case 170: extends = (uint64_t)goes_on(&a, set); break;
+    case 183: reads = extends; break;
+    case 184: extends = 1; break;
+    case 185: extends = reads; break;
+    case 208: return extends + 2 * reads;
+    case 211: extends &= n < 255; break;
+    case 212: return reads ? 1 : 2 * extends;
+    case 213: if (n == 0) reads = extends = 1; break;
+    }
+    return reads + 2 * extends;
+}
+
+static uint64_t open_live(const live *l) {
+    uint64_t c;
+    if (FAULT == 193 && l->table_len > 1020) c = open_table(l->table, 1020, l->start);
+    else if (FAULT == 195 && l->table_len && l->table_len <= 1020) c = l->start < l->table_len / 4 ? l->table_len / 4 : refuse(9, 0);
+    else if (FAULT == 194) c = open_table(l->table, l->table_len, 0);
+    else c = open_table(l->table, l->table_len, l->start);
+    if (FAULT == 214 && l->count > 255) return refuse(7, 0);
+    if (c >> 32) return c;
+    return l->count > 255 && FAULT != 192 ? refuse(7, 0) : c;
+}
+
+uint64_t trace_live_new(live *l, const uint8_t *table, size_t table_len, uint64_t start) {
+    uint64_t c = open_table(table, table_len, start);
+    int refused = c >> 32 != 0, keeps = FAULT == 175 && refused && table_len <= 1020;
+    if (FAULT == 179 && refused) return c;
+    if (FAULT == 215 && table_len) ((uint8_t *)table)[0] = 0;
+    if (FAULT == 216 && l->count == 77) return c;
+    if (FAULT == 217 && table[table_len] == 77) return c;
+    if (FAULT != 177) memset(l->table, 0, sizeof l->table);
+    if (FAULT != 178) memset(l->bytes, 0, sizeof l->bytes);
+    if (FAULT != 218) l->count = 0;
+    if (!refused || keeps) memcpy(l->table, table, table_len - (FAULT == 219 && table_len == 1020));
+    l->table_len = keeps || !refused ? table_len : FAULT == 180 ? 0 : 4;
+    l->start = refused && FAULT != 181 ? 0 : start;
+    if (FAULT == 221 && !refused) l->start = 0;
+    return FAULT == 207 && !refused ? 0 : c;
+}
+
+/* Whether the work area is too short for n bytes after the call and `before` before it. */
+static int short_work(uint64_t records, size_t before, size_t n, size_t work_len) {
+    size_t m = FAULT == 172 ? before : n, need = records * (m + 1) * (m + 2) / 2;
+    if ((FAULT == 222 && n == 255) || (FAULT == 220 && n == 0)) return 0;
+    if (FAULT == 223) need = records * (m + 1);
+    return work_len + (FAULT == 200) < need + (FAULT == 224);
+}
+
+static uint64_t deep_facts(const live *l, uint64_t c, size_t n) {
+    volatile uint8_t *big = __builtin_alloca(n * 8192);
+    if (n) big[0] = big[n * 8192 - 1] = 0;
+    return facts((tab){l->table, c}, l->start, l->bytes, n);
+}
+
+/* The answer for the line as it is; `before` are the bytes that it had. The work area's content is free. */
+static uint64_t told(const live *l, uint64_t c, size_t before, uint8_t *work) {
+    size_t n = FAULT == 169 ? before : l->count;
+    memset(work, 0x77, c * (l->count + 1) * (l->count + 2) / 2 + (FAULT == 198));
+    if (FAULT == 225) return deep_facts(l, c, n);
+    return facts((tab){l->table, c}, l->start, l->bytes, n);
+}
+
+uint64_t trace_live_add(live *l, uint8_t byte, uint8_t *work, size_t work_len) {
+    uint64_t c = open_live(l);
+    size_t n = l->count;
+    if (c >> 32) {
+        if (FAULT == 174) l->count = 0;
+        return c;
+    }
+    if (FAULT == 203 && n >= 255 && work_len < c * 257 * 129) return refuse(10, 0);
+    if (n >= 255 && FAULT == 191) return told(l, c, n, work);
+    if (n >= 255) return refuse(FAULT == 226 ? 10 : 7, 0);
+    if (FAULT == 196) l->bytes[n] = byte;
+    if (FAULT == 197 && work_len) work[0] = 0;
+    if (short_work(c, n, n + 1, work_len)) return refuse(10, 0);
+    if (FAULT == 167 && n == 254) return told(l, c, n, work);
+    if (FAULT == 190) memmove(l->bytes + 1, l->bytes, n);
+    l->bytes[FAULT == 190 ? 0 : n] = byte;
+    l->count = n + 1;
+    if (FAULT == 204 && n < 254) l->bytes[n + 1] = 0;
+    if (FAULT == 205 && l->table_len < 1020) l->table[l->table_len] = 0;
+    return told(l, c, n, work);
+}
+
+uint64_t trace_live_take_back(live *l, uint8_t *work, size_t work_len) {
+    uint64_t c = open_live(l);
+    size_t n = l->count;
+    if (c >> 32) return c;
+    if (n > 255) return refuse(short_work(c, n, n - 1, work_len) ? 10 : 7, 0);
+    if (FAULT == 173 && n == 0 && work_len < c) return refuse(10, 0);
+    if (n == (FAULT == 201)) return refuse(FAULT == 227 ? 7 : 19, FAULT == 228 ? n + 1 : 0);
+    if (n == 0) return told(l, c, n, work);
+    if (FAULT == 202 && n == 255) return refuse(7, 0);
+    if (FAULT == 229) l->bytes[n - 1] = 0;
+    if (FAULT == 199 ? work_len < c * (n + 1) * (n + 2) / 2 : short_work(c, n, n - 1, work_len)) return refuse(10, 0);
+    if (FAULT == 189) memmove(l->bytes, l->bytes + 1, n - 1);
+    if (FAULT != 168) l->bytes[n - 1] = 0;
+    if (FAULT != 176) l->count = n - 1;
+    if (FAULT == 182 && n > 1) l->bytes[n - 2] = 0;
+    return told(l, c, n, work);
+}

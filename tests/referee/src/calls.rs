@@ -120,7 +120,7 @@ pub fn trace_order(tokens: &[u8], pairs: &[Pair]) -> u64 {
 }
 
 /// Refusals 1 to 6, then 9.
-fn open(table: &[u8], start: u64) -> Result<(Table, usize), Refusal> {
+pub fn open(table: &[u8], start: u64) -> Result<(Table, usize), Refusal> {
     let table = check(table)?;
     match usize::try_from(start) {
         Ok(k) if k < table.records.len() => Ok((table, k)),

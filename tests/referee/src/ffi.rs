@@ -3,6 +3,7 @@
 
 use referee::bench::Request;
 use referee::calls::{self, Reader};
+use referee::live::Line;
 use referee::pairs::Pair;
 use referee::value::RECORD;
 
@@ -53,6 +54,9 @@ extern "C" {
         pairs: *const Pair,
         pairs_len: usize,
     ) -> u64;
+    pub fn trace_live_new(line: *mut Line, table: *const u8, table_len: usize, start: u64) -> u64;
+    pub fn trace_live_add(line: *mut Line, byte: u8, work: *mut u8, work_len: usize) -> u64;
+    pub fn trace_live_take_back(line: *mut Line, work: *mut u8, work_len: usize) -> u64;
 }
 
 /// A request with the buffer lent for the answer and the pattern it holds.
@@ -94,24 +98,24 @@ fn is_pattern(seed: u8, bytes: &[u8]) -> bool {
 }
 
 /// A lent mutable slice.
-struct Lent {
+pub struct Lent {
     bytes: Box<[u8]>,
     guard: usize,
     seed: u8,
 }
 
 impl Lent {
-    fn new(len: usize, seed: u8, lending: Lending) -> Self {
+    pub fn new(len: usize, seed: u8, lending: Lending) -> Self {
         let guard = if lending == Lending::Guarded { 24 } else { 0 };
         let bytes = pattern(seed, len + 2 * guard).into_boxed_slice();
         Lent { bytes, guard, seed }
     }
 
-    fn len(&self) -> usize {
+    pub fn len(&self) -> usize {
         self.bytes.len() - 2 * self.guard
     }
 
-    fn pointer(&mut self) -> *mut u8 {
+    pub fn pointer(&mut self) -> *mut u8 {
         self.bytes[self.guard..].as_mut_ptr()
     }
 
@@ -120,13 +124,13 @@ impl Lent {
         &self.bytes[self.guard..self.bytes.len() - self.guard]
     }
 
-    fn guards_hold(&self) -> bool {
+    pub fn guards_hold(&self) -> bool {
         let end = self.bytes.len() - self.guard;
         let mut beside = (0..self.guard).chain(end..self.bytes.len());
         beside.all(|i| self.bytes[i] == pattern_byte(self.seed, i))
     }
 
-    fn untouched(&self) -> bool {
+    pub fn untouched(&self) -> bool {
         is_pattern(self.seed, &self.bytes)
     }
 }

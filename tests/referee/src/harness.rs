@@ -2,15 +2,19 @@
 //! first failure after making it small.
 
 use crate::ffi::{self, Case, Lending};
+use crate::script::Script;
 use crate::shrink::{hex, show, shrink};
 use referee::bench::Request;
 use referee::calls::Reader;
+use referee::live::{Facts, Typist};
 use referee::pairs::Pair;
+use referee::table::Table;
 use std::collections::BTreeMap;
 use std::time::Instant;
 
 /// The answers met: the call, the refusal number (0 for a result), in Compare
-/// the result or the detail, and in Order whether a pair was broken.
+/// the result or the detail, in Order whether a pair was broken, and of a live
+/// line the facts.
 type Met = BTreeMap<(&'static str, u64, u64), u64>;
 
 /// What each call can answer.
@@ -22,10 +26,14 @@ const ANSWERS: &[(&str, &[u64])] = &[
     ("compare", &[0, 1, 2, 3, 4, 5, 6, 9, 12, 14]),
     ("compile", &[0, 11, 15, 16]),
     ("order", &[0, 17, 18]),
+    ("live_new", &[0, 1, 2, 3, 4, 5, 6, 9]),
+    ("live_add", &[0, 1, 2, 3, 4, 5, 6, 7, 9, 10]),
+    ("live_take_back", &[0, 1, 2, 3, 4, 5, 6, 7, 9, 10, 19]),
 ];
 
 pub struct Harness {
     pub reader: Reader,
+    typist: Typist,
     pub comparisons: u64,
     met: Met,
     lending: Lending,
@@ -37,6 +45,7 @@ impl Harness {
     pub fn new(lending: Lending) -> Self {
         Harness {
             reader: Reader::default(),
+            typist: Typist::default(),
             comparisons: 0,
             met: Met::new(),
             lending,
@@ -98,6 +107,36 @@ impl Harness {
         *self = Harness { met, ..Harness::new(self.lending) };
     }
 
+    /// A list of calls on a live line against the model.
+    pub fn play(&mut self, script: &Script) {
+        self.comparisons += script.calls.len() as u64 + 1;
+        let typist = &mut self.typist;
+        let mut facts = |table: &Table, k: usize, bytes: &[u8]| typist.facts(table, k, bytes);
+        match script.play(self.lending, &mut facts) {
+            Ok(answers) => answers.into_iter().for_each(|(call, number)| self.live(call, number)),
+            Err(message) => {
+                println!("FAILED in {}: {message}", self.origin);
+                print!("{}", script.smallest(self.lending, &mut facts));
+                std::process::exit(1);
+            }
+        }
+    }
+
+    /// The same on a small stack, where the facts are known in closed form.
+    pub fn play_known(&mut self, script: &Script, facts: Facts) {
+        self.comparisons += script.calls.len() as u64 + 1;
+        if let Err(message) = script.play(self.lending, facts) {
+            println!("FAILED in {}: {message}", self.origin);
+            std::process::exit(1);
+        }
+    }
+
+    fn live(&mut self, call: &'static str, number: u64) {
+        let facts = if call == "live_new" { 0 } else { number & 0xffff_ffff };
+        let rest = if number >> 32 == 0 { facts } else { 0 };
+        *self.met.entry((call, number >> 32, rest)).or_default() += 1;
+    }
+
     fn meet(&mut self, request: &Request, number: u64) {
         let (refusal, rest) = (number >> 32, number & 0xffff_ffff);
         let call = call_name(request);
@@ -118,6 +157,7 @@ impl Harness {
                 let kinds: &[u64] = match (call, refusal) {
                     ("compare", 0) => &[0, 1, 2],
                     ("compare", 12) | ("order", 0) => &[0, 1],
+                    ("live_add" | "live_take_back", 0) => &[0, 2, 3],
                     _ => &[0],
                 };
                 for &rest in kinds {

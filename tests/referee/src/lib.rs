@@ -1,14 +1,16 @@
-//! A second implementation of document 01, with asks 1 to 3, 5 and 6 of
+//! A second implementation of document 01, with asks 1 to 3 and 5 to 7 of
 //! document 02, written from their text.
 //!
 //! Read is done twice: by derivatives with injection (`posix`) and by the
 //! rules of the relation with an automaton for the languages (`relation`).
 //! Compile is done by the spans of a text (`notation`), Order by looking back
-//! from each token (`pairs`).
+//! from each token (`pairs`), and what a live line can become by derivatives on
+//! expressions of another form (`live`).
 //! Nothing here calls the library under test.
 
 pub mod bench;
 pub mod calls;
+pub mod live;
 pub mod notation;
 pub mod order;
 pub mod pairs;

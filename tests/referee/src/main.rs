@@ -4,6 +4,7 @@
 //! referee soak SECONDS [SEED]  random rounds until the time is up
 //! referee notation             the part of the gate on Compile
 //! referee order                the part of the gate on Order
+//! referee live                 the part of the gate on live lines
 //! referee stack                deepest nestings on a stack of 1 MiB
 //! referee memcheck             exactly sized buffers, for valgrind
 
@@ -13,9 +14,11 @@ mod harness;
 mod lists;
 mod memcheck;
 mod sampled;
+mod script;
 mod shrink;
 mod stack;
 mod texts;
+mod typing;
 mod unfit;
 
 use ffi::Lending;
@@ -32,6 +35,7 @@ type Round = (&'static str, fn(&mut Harness, &mut Rng, Size));
 const TABLE: Round = ("table", sampled::round);
 const TEXT: Round = ("text", texts::round);
 const LIST: Round = ("list", lists::round);
+const LIVE: Round = ("live line", typing::round);
 
 /// So many rounds, each from a seed of its own.
 fn rounds(h: &mut Harness, round: Round, size: Size, seed: u64, count: u64) {
@@ -68,6 +72,7 @@ fn gate() -> bool {
     h.done("random tables of up to 255 records");
     notation(&mut h);
     order(&mut h);
+    live(&mut h);
     h.coverage()
 }
 
@@ -112,6 +117,28 @@ fn order(h: &mut Harness) {
     h.done("random lists of up to 1,000 tokens");
 }
 
+fn live(h: &mut Harness) {
+    typing::made(h, &(0..=255).collect::<Vec<u8>>());
+    h.done("live lines, as they are made");
+    typing::bytes(h);
+    h.done("live lines with every byte");
+    typing::lengths(h);
+    h.done("live lines of every length");
+    typing::filled(h);
+    h.done("live lines filled by hand");
+    for (records, longest) in [(1, 4), (2, 4), (3, 4), (4, 3)] {
+        typing::small(h, records, longest, true);
+    }
+    typing::small(h, 5, 2, false);
+    h.done("live lines by all tables of up to 5 records");
+    rounds(h, LIVE, Size::Small, GATE_SEED, 3000);
+    h.done("live lines by random small tables");
+    rounds(h, LIVE, Size::Medium, GATE_SEED, 200);
+    h.done("live lines by random tables of up to 61 records");
+    rounds(h, LIVE, Size::Long, GATE_SEED, 30);
+    h.done("live lines by random tables of up to 255 records");
+}
+
 fn soak(seconds: u64, seed: u64) {
     let end = Instant::now() + Duration::from_secs(seconds);
     let mut h = Harness::new(Lending::Guarded);
@@ -125,6 +152,7 @@ fn soak(seconds: u64, seed: u64) {
         one_round(&mut h, TABLE, size, seed, i);
         one_round(&mut h, TEXT, size, seed, i);
         one_round(&mut h, LIST, size, seed, i);
+        one_round(&mut h, LIVE, size, seed, i);
         i += 1;
     }
     h.done(&format!("soak, {i} rounds of seed {seed}"));
@@ -138,6 +166,7 @@ fn run(arguments: &[String]) -> bool {
         ["gate"] => {}
         ["notation"] => notation(&mut Harness::new(Lending::Guarded)),
         ["order"] => order(&mut Harness::new(Lending::Guarded)),
+        ["live"] => live(&mut Harness::new(Lending::Guarded)),
         ["stack"] => stack::run(),
         ["memcheck"] => memcheck::run(),
         ["soak", seconds] => match number(seconds) {
@@ -161,7 +190,7 @@ fn main() {
         Ok(true) => {}
         Ok(false) => {
             eprintln!(
-                "usage: referee gate | soak SECONDS [SEED] | notation | order | stack | memcheck"
+                "usage: referee gate | soak SECONDS [SEED] | notation | order | live | stack | memcheck"
             );
             std::process::exit(2);
         }

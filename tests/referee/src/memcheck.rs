@@ -7,6 +7,7 @@ use crate::harness::Harness;
 use crate::lists;
 use crate::sampled::{round, Size};
 use crate::texts;
+use crate::typing;
 use crate::unfit;
 use referee::bench::{T1, T2};
 use referee::random::{star_nest, Rng};
@@ -58,4 +59,11 @@ pub fn run() {
         lists::round(&mut h, &mut rng, if i % 8 == 7 { Size::Medium } else { Size::Small });
     }
     h.done("memory, random lists");
+    typing::made(&mut h, &[0, 255]);
+    typing::each_field(&mut h);
+    for i in 0..24 {
+        h.from(format!("memory, live line round {i}"));
+        typing::round(&mut h, &mut rng, if i % 8 == 7 { Size::Medium } else { Size::Small });
+    }
+    h.done("memory, live lines");
 }

@@ -19,7 +19,7 @@ pub enum Size {
 }
 
 /// A random table of the size, and a start number in range.
-fn start(rng: &mut Rng, size: Size) -> (Table, usize) {
+pub fn start(rng: &mut Rng, size: Size) -> (Table, usize) {
     let records = match size {
         Size::Small => 1 + rng.below(12),
         Size::Medium => 1 + rng.below(60),
@@ -73,7 +73,7 @@ fn comb(rng: &mut Rng, records: usize) -> Table {
 }
 
 /// Grows a value; of several tries the longest that a line can hold.
-fn grown(rng: &mut Rng, table: &Table, k: usize, size: Size) -> Option<Value> {
+pub fn grown(rng: &mut Rng, table: &Table, k: usize, size: Size) -> Option<Value> {
     let grower = Grower::new(table);
     let (tries, most) = match size {
         Size::Small => (1, 12),

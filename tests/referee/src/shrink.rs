@@ -205,7 +205,7 @@ fn candidates(case: &Case) -> Vec<Case> {
 
 /// The table without one record nobody names, with a record made plain, with
 /// a record replaced by its child, or with a tag gone.
-fn smaller_tables(table: &Table, start: u64) -> Vec<(Vec<u8>, u64)> {
+pub fn smaller_tables(table: &Table, start: u64) -> Vec<(Vec<u8>, u64)> {
     let mut all = Vec::new();
     let named: Vec<usize> = table.records.iter().flat_map(|r| r.kind.children()).collect();
     for k in (0..table.records.len()).rev() {

@@ -1,10 +1,11 @@
-//! The deepest nestings, the longest readings and the longest token lists of
+//! The deepest nestings, the longest readings, token lists and live lines of
 //! each call, on a thread of 1 MiB stack. The answers are known in closed form;
 //! the readings are built without recursion, so the thread's stack is the
 //! library's.
 
 use crate::ffi::Lending;
 use crate::harness::{check, compare, compile, order, read, spell, tokens, Harness};
+use crate::typing;
 use referee::bench::refusal;
 use referee::calls::work_need;
 use referee::pairs::{Pair, MOST};
@@ -376,15 +377,40 @@ fn token_lists(h: &mut Harness) {
     h.put_known(order(&tokens, &pairs), 0, refusal(17), &[]);
 }
 
+/// A line of bytes a is typed to one byte more than it may have, and taken back to
+/// nothing: `facts` are those of so many bytes.
+fn typed(h: &mut Harness, table: &Table, bytes: usize, facts: fn(usize) -> (bool, bool)) {
+    let script = typing::up_and_down(&table.bytes(), bytes);
+    h.play_known(&script, &mut |_, _, line| facts(line.len()));
+    let script = typing::last_bytes(&table.bytes());
+    h.play_known(&script, &mut |_, _, line| facts(line.len()));
+}
+
+fn live_lines(h: &mut Harness) {
+    h.from("live lines by 254 Stars");
+    typed(h, &star_nest(LETTERS[0], LEVELS + 1, 0), 255, |_| (true, true));
+    typed(h, &star_nest(LETTERS[1], LEVELS + 1, 9), 60, |_| (true, true));
+    let none = Letter::other(0, 255);
+    typed(h, &star_nest(none, LEVELS + 1, 0), 60, |n| (n == 0, n == 0));
+    for left in [true, false] {
+        h.from("live lines by 127 Seq and by 127 Or");
+        typed(h, &comb(true, left), 130, |n| (n == 128, n <= 128));
+        typed(h, &comb(false, left), 60, |n| (n == 1, n <= 1));
+    }
+    h.from("live lines by 126 tagged Empties beside a byte");
+    typed(h, &beside_empties(9), 60, |_| (true, true));
+}
+
 pub fn run() {
     type Part = fn(&mut Harness);
-    let parts: [(&str, Part); 6] = [
+    let parts: [(&str, Part); 7] = [
         ("stack of 1 MiB, nests of Stars", stars),
         ("stack of 1 MiB, readings of over 16 MB", millions),
         ("stack of 1 MiB, combs of Or and Seq", combs),
         ("stack of 1 MiB, empty tagged parts", empties),
         ("stack of 1 MiB, texts of up to 4,097 bytes", parentheses),
         ("stack of 1 MiB, lists of 4,000,000 tokens", token_lists),
+        ("stack of 1 MiB, live lines", live_lines),
     ];
     for (name, part) in parts {
         let thread = std::thread::Builder::new().stack_size(STACK).spawn(move || {

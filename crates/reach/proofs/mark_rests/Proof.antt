@@ -22,7 +22,7 @@ returns : tie.Need-returns Inv-loop μ-loop
 returns c = marked-if-not (sym (c .before .is-marked .ensures) ∙ not-true _ (c .if1 .taken))
 
 loop-holds : tie.Need-loop-holds Inv-loop μ-loop
-loop-holds c = (omega arith, rests-none)
+loop-holds c = (omega arith, rests-none (omega arith))
 
 tell-requires : tie.Need-tell-requires Inv-loop μ-loop
 tell-requires c κs = (c .before .before .before .before .before .before .before .pre .0, omega (arith, c .before .loop .inv .0))

@@ -3,7 +3,7 @@
 use native.Mathlib.Omega.{arith}
 use mathlib.Core.Path.{sym, _∙_}
 use Rattle.table.proofs.Passing.{count-bound}
-use Rattle.reach.proofs.Visits.{visiting-row, star-found, star-visited}
+use Rattle.reach.proofs.Visits.{visiting-row, star-first, star-found, star-visited}
 use Rattle.reach.proofs.visit_star.Statement.{statement}
 use Rattle.reach.proofs.visit_star.Tie as tie
 
@@ -20,7 +20,7 @@ cast-a : tie.Need-cast-a
 cast-a c = omega arith
 
 mark-row-rests-requires : tie.Need-mark-row-rests-requires
-mark-row-rests-requires c κs = (visiting-row (c .before .before .before .before .before .before .before .before .before .pre .0) (c .before .before .before .before .before .before .before .before .before .pre .0 .inside), (c .before .before .before .before .before .before .before .before .before .pre .0 .own .size, (omega arith, c .before .before .before .before .before .before .before .before .before .pre .0 .size)))
+mark-row-rests-requires c κs = (visiting-row (c .before .before .before .before .before .before .before .before .before .pre .0) (omega (arith, c .before .before .before .before .before .before .before .before .before .pre .0 .inside, star-first (c .before .before .before .before .before .before .before .before .before .pre .0) (c .before .before .before .before .before .before .before .before .before .pre .1) (c .before .a-at .ensures))), (c .before .before .before .before .before .before .before .before .before .pre .0 .own .size, (omega arith, c .before .before .before .before .before .before .before .before .before .pre .0 .size)))
 
 same-length : tie.Need-same-length
 same-length c = c .before .before .mark-row-rests .ensures .size

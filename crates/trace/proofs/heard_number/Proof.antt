@@ -19,7 +19,7 @@ cast-result-2 : tie.Need-cast-result-2
 cast-result-2 c = search needs
 
 mul-result : tie.Need-mul-result
-mul-result c = omega (arith, byte-bound (c .before .before .before .heard .given .0 .0 .extends))
+mul-result c = let f = c .before .before .before .heard .given .0 .0 in omega (arith, byte-bound (f .reads), byte-bound (f .extends))
 
 add-result : tie.Need-add-result
 add-result c =

@@ -53,7 +53,7 @@ settle-requires : tie.Need-settle-requires
 settle-requires c κs =
     let s = c .before .before .before .before .before .before .before .before .before in
     let sizes = line-sizes (s .args .self) _ (s .good .0) in
-    ruled-held _ (sizes .0, simp length-set (sizes .1)) (ruled-count _ (ruled (c .before .before .before)) (omega (arith, c .before .before .if1 .left)))
+    (ruled-held _ sizes (ruled (c .before .before .before)), ruled-held _ (sizes .0, simp length-set (sizes .1)) (ruled-count _ (ruled (c .before .before .before)) (omega (arith, c .before .before .if1 .left))))
 
 same-length : tie.Need-same-length
 same-length c = c .before .before .settle .kept .1 .1 .0
