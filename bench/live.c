@@ -1,7 +1,8 @@
 /*
  * live load:N MS CALL: prints the microseconds of a call on work load N.
+ * live half:N MS CALL: the same where only half of the line is typed; Read is still of the whole line.
  * live table:N:BYTES MS CALL: the same by table N of those that take long, on the last bytes of its line.
- * CALL is Read, of the line, or Key: Add of its last byte to a live line that has the others, and Take back of it, the two together.
+ * CALL is Read, of the line, or Key: Add of the last byte to a live line that has the others, and Take back of it, the two together.
  */
 #include <stdio.h>
 #include <stdlib.h>
@@ -13,7 +14,7 @@
 #include "trace.h"
 
 static const uint8_t *records, *line;
-static size_t count, line_len, work_len, reading_len;
+static size_t count, line_len, typed, work_len, reading_len;
 static uint8_t *work, *reading;
 static trace_live live;
 static uint64_t answer;
@@ -27,7 +28,7 @@ static void read_line(void *arg)
 static void press_key(void *arg)
 {
     (void)arg;
-    answer = trace_live_add(&live, line[line_len - 1], work, work_len);
+    answer = trace_live_add(&live, line[typed - 1], work, work_len);
     if (!trace_is_refused(answer))
         answer = trace_live_take_back(&live, work, work_len);
 }
@@ -40,19 +41,22 @@ static int find(const char *name)
     int number;
     if (sscanf(name, "table:%d:%zu", &number, &line_len) == 2 && table_get(number, &table) && line_len > 0 && line_len <= sizeof table.line) {
         records = table.records, count = table.count, line = table.line + sizeof table.line - line_len;
+        typed = line_len;
         return 1;
     }
-    if (sscanf(name, "load:%d", &number) != 1 || !load_get(number, &load))
+    int half = sscanf(name, "half:%d", &number) == 1;
+    if ((!half && sscanf(name, "load:%d", &number) != 1) || !load_get(number, &load))
         return 0;
     records = load.table, count = load.records, line = (const uint8_t *)load.line, line_len = load.line_len;
-    return line_len > 0;
+    typed = half ? line_len / 2 : line_len;
+    return typed > 0;
 }
 
-/* A live line with all bytes of the line but the last. */
+/* A live line with all bytes but the last of those that are to be typed. */
 static int type_line(void)
 {
     answer = trace_live_new(&live, records, 4 * count, count - 1);
-    for (size_t i = 0; i + 1 < line_len && !trace_is_refused(answer); i++)
+    for (size_t i = 0; i + 1 < typed && !trace_is_refused(answer); i++)
         answer = trace_live_add(&live, line[i], work, work_len);
     return !trace_is_refused(answer);
 }

@@ -201,6 +201,7 @@ worst_tables=$($OUT/worst) || fail "the worst tables"
 # the lines by which one key of a live line is timed: name for the program, bytes, records, name
 live_lines=$(
     $OUT/list loads | head -n 3 | sed 's/^/load:/'
+    $OUT/list loads | head -n 3 | awk '{ $1 = "half:" $1; $2 = int($2 / 2); print $0 ", half" }'
     while read -r n records _ name; do
         for bytes in 18 80 255; do echo "table:$n:$bytes $bytes $records ${name%,*}"; done
     done <<<"$worst_tables"
@@ -321,8 +322,9 @@ done <<<"$worst_tables"
 
 section "One key of a live line" <<'END'
 Add of a line's last byte to a live line that has the others, and Take back of it, the two together, against Read of the whole line: the ordinary
-lines, and the worst tables on the last 18, 80 and 255 bytes of their lines. The ratio is the key's time through that of Read. The search for bytes
-behind the line is made where it has no reading, so by the tables that end in cd; after their last byte no bytes are left that would do.
+lines, the same where only half of the line is typed, which then has no reading yet, and the worst tables on the last 18, 80 and 255 bytes of their
+lines. The ratio is the key's time through that of Read. The search for bytes behind the line is made where it has no reading: on the halves, and by
+the tables that end in cd, for which after the last byte no bytes are left that would do.
 END
 head=("line or table" bytes records "key µs" spread "Read µs" ratio)
 wide=(28 5 7 8 7 8 6)

@@ -1,4 +1,4 @@
-// The calls for C: numbers, byte slices and pairs of names in, one 64-bit number out.
+// The calls for C: numbers, byte slices, pairs of names and live lines in, one 64-bit number out.
 
 ghost use mathlib.Core.Path.{_≡_};
 ghost use Rattle.table.specs.Answers.{says, number};
