@@ -10,7 +10,6 @@ pub mod Stepping
 pub mod Behind
 pub mod Handed
 -- What only the functions inside need.
-mod Copying
 mod Sizes
 mod Answering
 mod Finding

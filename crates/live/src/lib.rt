@@ -4,8 +4,7 @@
 ghost use Prim.Native.Nat.{_/_, _≤_, _<_};
 ghost use mathlib.Core.Path.{_≡_};
 ghost use mathlib.Core.Bool.{true};
-ghost use mathlib.Core.List.{_++_};
-ghost use lib.ListN.{length, drop};
+ghost use lib.ListN.{length};
 ghost use Rattle.regex.specs.Spells.{spells};
 ghost use Rattle.regex.specs.Extends.{extends};
 ghost use Rattle.table.specs.Records.{count};
@@ -52,18 +51,6 @@ pub struct Made {
 pub struct Step {
     pub line: LiveLine,
     pub answer: Heard,
-}
-
-// Copies a table to the front of an array.
-fn copy_table(to: &mut [u8], from: &[u8])
-    requires { ⌜ length (now from) ≤ length (now to) ⌝ }
-    ensures { λ _. ⌜ now (to .exit) ≡ now (from .entry) ++ drop (length (now (from .entry))) (now (to .entry)) ⌝ }
-{
-    let mut i = 0;
-    while i < from.len() {
-        to[i] = from[i];
-        i += 1;
-    }
 }
 
 // The line of a refused constructor: one Nothing record, start number 0, and no bytes.
@@ -163,7 +150,7 @@ impl LiveLine {
             };
         }
         let mut copy = [0u8; 1020];
-        copy_table(&mut copy, table);
+        printing::put_text(&mut copy, 0, table);
         Made {
             line: LiveLine {
                 table: copy,
