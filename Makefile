@@ -104,7 +104,7 @@ demo:
 
 # The examples in C, compiled without a warning, and what they must print.
 example: $(LIB) $(BUILD)/console | $(BUILD)
-	@for name in commission rules parts; do $(CC) -std=c99 $(CFLAGS) examples/$$name.c $(LIB) -o $(BUILD)/$$name || exit 1; done
+	@for name in commission rules parts lap; do $(CC) -std=c99 $(CFLAGS) examples/$$name.c $(LIB) -o $(BUILD)/$$name || exit 1; done
 	@bash tests/example.sh $(BUILD)
 
 # The test console on a pseudo-terminal: what it shows after each key, and the terminal after each end.
@@ -193,8 +193,8 @@ SEED = 7
 soak: lib $(REFEREE)
 	@$(REFEREE) soak $(SECONDS) $(SEED)
 
-# Our read and tokens against other matchers, each call by itself, the worst tables, one key of a live line against a read, our compile against
-# theirs, and our order against one pass over the names: times and ratios, in one run.
+# Our read and tokens against other matchers, each call by itself, the worst tables, one key of a live line against a read, a page against its lines, our
+# compile against theirs, and our order against one pass over the names: times and ratios, in one run.
 bench: lib
 	@bash bench/run.sh
 

@@ -1,7 +1,7 @@
 #!/bin/bash
 # Times our read + tokens against regular expression engines with capture groups, our calls one by one, the worst tables that are known, one key of a
-# live line against a read of it, our time against the line's length and the table's size, our compile against the regcomp of the engines that have
-# one, and our order on a long list. Run make lib first (make bench does).
+# live line against a read of it, a page against its lines one by one, our time against the line's length and the table's size, our compile against the
+# regcomp of the engines that have one, and our order on a long list. Run make lib first (make bench does).
 #   bash bench/run.sh             prints the tables
 #   bash bench/run.sh --markdown  prints the text of docs/BENCH.md and writes its pictures, docs/length.svg and docs/records.svg
 # With all peers it takes about 5 minutes. BENCH_MS: milliseconds of two repeats (200). BENCH_CUT: seconds until a peer is cut (10).
@@ -28,7 +28,7 @@ mkdir -p $OUT/hs
 $CC $FLAGS -c bench/loads.c -o $OUT/loads.o && $CC $FLAGS bench/list.c $OUT/loads.o -o $OUT/list &&
     $CC $FLAGS bench/ours.c $OUT/loads.o $LIB -o $OUT/ours && $CC $FLAGS bench/posix.c $OUT/loads.o -o $OUT/glibc &&
     $CC $FLAGS bench/worst.c bench/tables.c $LIB -o $OUT/worst && $CC $FLAGS bench/order.c $LIB -o $OUT/order &&
-    $CC $FLAGS bench/live.c bench/tables.c $OUT/loads.o $LIB -o $OUT/live &&
+    $CC $FLAGS bench/live.c bench/tables.c $OUT/loads.o $LIB -o $OUT/live && $CC $FLAGS bench/page.c $OUT/loads.o $LIB -o $OUT/page &&
     $CC $FLAGS bench/compile.c $LIB -o $OUT/compile && $CC $FLAGS -DUSE_GLIBC bench/compile.c -o $OUT/compile-glibc || fail "build"
 peers=(glibc)
 compilers=(glibc)
@@ -217,6 +217,10 @@ for n in $(cut -d' ' -f1 <<<"$live_lines"); do
     first live "$n" Key
     first live "$n" Read
 done
+for n in $($OUT/page | cut -d' ' -f1); do
+    first page "$n" Page
+    first page "$n" Lines
+done
 for n in $($OUT/compile | cut -d' ' -f1); do first compile "$n"; done
 for n in $($OUT/order | cut -d' ' -f1); do
     first order "$n"
@@ -228,8 +232,8 @@ if [ "$MARKDOWN" ]; then
 # Benchmark
 
 Our read + tokens against what a user would pick instead: regular expression engines with capture groups, one process for each. Below are
-refused lines, each call by itself, the worst tables, one key of a live line, the time against the line's length and the table's size, our compile
-against the engines' own, and our order of tokens on a long list. To repeat it: \`make bench\` prints the tables, and
+refused lines, each call by itself, the worst tables, one key of a live line, a page, the time against the line's length and the table's size, our
+compile against the engines' own, and our order of tokens on a long list. To repeat it: \`make bench\` prints the tables, and
 \`bash bench/run.sh --markdown >docs/BENCH.md\` writes this page and its pictures. glibc is always there; the Debian packages libtre-dev,
 libre2-dev, and ghc with libghc-regex-tdfa-dev bring the others.
 
@@ -334,6 +338,20 @@ while read -r n bytes records name; do
     read -r whole _ < <(both live "$n" Read) || exit 1
     row "$(cell "$name")" "$bytes" "$records" "$(us "$ours")" "$(percent "$spread")" "$(us "$whole")" "$(ratio "$ours" "$whole")"
 done <<<"$live_lines"
+
+section "A page" <<'END'
+A lap of 255 ordinary lines by Page, against reading its lines one by one, Read and then Tokens of what it wrote, into the same buffers: the same line
+over and over, so that all are one run, and by turns with another of as many bytes that has one token less, so that each line is a run. The page rules
+take any number of the lines' one class. The ratio is the page's time through that of its lines.
+END
+head=(lap "bytes a line" records "page µs" spread "lines µs" ratio)
+wide=(28 12 7 8 7 8 6)
+heading
+while read -r n bytes records name; do
+    read -r ours spread < <(both page "$n" Page) || exit 1
+    read -r lines _ < <(both page "$n" Lines) || exit 1
+    row "$name" "$bytes" "$records" "$(us "$ours")" "$(percent "$spread")" "$(us "$lines")" "$(ratio "$ours" "$lines")"
+done < <($OUT/page)
 
 section "Time against the line's length" <<'END'
 The rule of the short ordinary line, 50 records, on lines whose remark grows.

@@ -1,18 +1,20 @@
 /*
  * Trace line reader: cuts a line into named tokens by a table of regular expressions, by the POSIX rule. The table is written by hand, or made
  * from a text by trace_compile. trace_order says whether the tokens' names stand in the order that pairs of names ask for. A live line is one that
- * is still being typed: after each byte trace_live_add says whether it has a reading, and whether it can still get one.
+ * is still being typed: after each byte trace_live_add says whether it has a reading, and whether it can still get one. trace_page reads the lines of
+ * a page by one table, and their classes by a second one.
  *
- * Every call returns one 64-bit number: its result, or a refusal's number times 2^32 plus the refusal's detail. Take it apart with
- * trace_is_refused, trace_refusal and trace_detail. A result is below 2^32, but for that of trace_order on 2^32 tokens (12 GiB) and more.
+ * Every call returns one 64-bit number: its result, or a refusal's number times 2^32 plus the refusal's detail, in trace_page plus the one that is
+ * named times 2^56. Take it apart with trace_is_refused, trace_refusal, trace_detail and trace_who. A result is below 2^32, but for that of
+ * trace_order on 2^32 tokens (12 GiB) and more.
  *
  * What the caller owes: a pointer with a length above 0 points to that many bytes, or pairs (one with length 0 may be null, or any address),
- * a pointer to a trace_live points to one, and what a call writes to (work, out, a trace_live) overlaps no other argument. Nothing else:
- * every text, table, start number, line, live line, reading, token list, pair and length is taken, and the call comes to an end with its result or a
- * refusal. The calls keep no state and allocate nothing; several threads may call at once on buffers and live lines of their own. A call needs less
- * than 1 MiB of stack.
+ * a pointer to a trace_live points to one, and what a call writes to (work, out, a trace_live, and in trace_page reading, first and second)
+ * overlaps no other argument. Nothing else: every text, table, start number, line, page, live line, reading, token list, pair and length is taken,
+ * and the call comes to an end with its result or a refusal. The calls keep no state and allocate nothing; several threads may call at once on
+ * buffers and live lines of their own. A call needs less than 1 MiB of stack.
  *
- * The functions defined here are in no library: they are compiled into the caller, C99 or C++. The ten calls are in libtrace.a and
+ * The functions defined here are in no library: they are compiled into the caller, C99 or C++. The eleven calls are in libtrace.a and
  * libtrace.so:
  *     cc tool.c $(pkg-config --cflags --libs trace)
  *
@@ -29,9 +31,9 @@
 extern "C" {
 #endif
 
-/* The version, as numbers and as text ("3.1.0"). Another major number says that a format or a call's result has changed. */
+/* The version, as numbers and as text ("3.2.0"). Another major number says that a format or a call's result has changed. */
 #define TRACE_VERSION_MAJOR 3
-#define TRACE_VERSION_MINOR 1
+#define TRACE_VERSION_MINOR 2
 #define TRACE_VERSION_PATCH 0
 #define TRACE_TEXT_OF(macro) TRACE_TEXT(macro)
 #define TRACE_TEXT(word) #word
@@ -43,6 +45,7 @@ extern "C" {
 #define TRACE_MAX_TEXT 4096       /* bytes of a text for trace_compile */
 #define TRACE_MAX_TABLE 1020      /* bytes of a table; a buffer of these is always long enough for trace_compile */
 #define TRACE_MAX_PAIRS 64        /* pairs for trace_order */
+#define TRACE_MAX_LINES 255       /* lines of a page */
 #define TRACE_TABLE_RECORD 4      /* kind, a, b, tag */
 #define TRACE_READING_RECORD 4    /* kind, argument, bytes spelled, number of the table record */
 #define TRACE_TOKEN 3             /* tag, offset in the line, length */
@@ -112,11 +115,20 @@ extern "C" {
 #define TRACE_REFUSED_TOKEN_BYTES 18 /* token list whose bytes are not a multiple of 3 */
 /* That of trace_live_take_back. */
 #define TRACE_REFUSED_EMPTY_LINE 19 /* Take back on a line without bytes */
+/* That of trace_page. Where it names one line, the detail of every refusal is that line's number, from 0. */
+#define TRACE_REFUSED_LINES 20    /* page of over 255 lines */
 
 /* An answer taken apart. */
 static inline int trace_is_refused(uint64_t answer) { return (answer >> 32) != 0; }
-static inline uint32_t trace_refusal(uint64_t answer) { return (uint32_t)(answer >> 32); }
+static inline uint32_t trace_refusal(uint64_t answer) { return (uint32_t)(answer >> 32) & 0xFFFFFF; }
 static inline uint32_t trace_detail(uint64_t answer) { return (uint32_t)answer; }
+
+/* The one that a refusal of trace_page names. Of a result, and of what another call answers, it is 0. */
+#define TRACE_WHO_PAGE 0          /* the page: 20, or its class bytes */
+#define TRACE_WHO_LINE_RULES 1    /* the table and the start number by which the lines are read */
+#define TRACE_WHO_PAGE_RULES 2    /* those by which the class bytes are read */
+#define TRACE_WHO_LINE 3          /* one line; the detail is its number, from 0 */
+static inline uint32_t trace_who(uint64_t answer) { return (uint32_t)(answer >> 56); }
 
 /* What a refusal means, in words for a message; of a number that is no refusal's it says so. */
 static inline const char *trace_refusal_text(uint32_t refusal)
@@ -142,6 +154,7 @@ static inline const char *trace_refusal_text(uint32_t refusal)
     case TRACE_REFUSED_PAIRS: return "there are over 64 pairs of names";
     case TRACE_REFUSED_TOKEN_BYTES: return "the token list is not made of whole tokens of 3 bytes";
     case TRACE_REFUSED_EMPTY_LINE: return "the line has no byte to take back";
+    case TRACE_REFUSED_LINES: return "the page has over 255 lines";
     default: return "no refusal has this number";
     }
 }
@@ -217,7 +230,8 @@ typedef struct { uint8_t first, second; } trace_pair;
  *
  * The list is as trace_tokens writes it, 3 bytes for each token, and of any length. A name may be any byte; offsets and lengths are not looked
  * at. tokens_len counts bytes, pairs_len pairs. On 2^32 tokens and more, where a result may look like a refusal, the lengths tell them apart: it
- * is 17 exactly if pairs_len is above TRACE_MAX_PAIRS, and otherwise 18 exactly if tokens_len is not a multiple of TRACE_TOKEN.
+ * is 17 exactly if pairs_len is above TRACE_MAX_PAIRS, and otherwise 18 exactly if tokens_len is not a multiple of TRACE_TOKEN. Of such a result
+ * trace_refusal, trace_who and trace_detail are parts of a number and mean nothing.
  */
 uint64_t trace_order(const uint8_t *tokens, size_t tokens_len, const trace_pair *pairs, size_t pairs_len);
 
@@ -256,6 +270,31 @@ uint64_t trace_live_new(trace_live *line, const uint8_t *table, size_t table_len
  */
 uint64_t trace_live_add(trace_live *line, uint8_t byte, uint8_t *work, size_t work_len);
 uint64_t trace_live_take_back(trace_live *line, uint8_t *work, size_t work_len);
+
+/*
+ * Reads a page: up to TRACE_MAX_LINES lines, each ended by a byte 10, which the last may lack. A byte 10 that ends the page opens no further line,
+ * and a page without bytes has no line. Each line is read by the line rules, line_table and line_start, and its tokens are listed. Its class is its
+ * first token's name, or 0 if it has no token. Neighbouring lines are alike if their tokens have the same names in the same order; a run of alike
+ * lines counts as its first line. So there is one class byte for each run. The class bytes, in order, are then read as a line by the page rules,
+ * page_table and page_start: the reading is written to the front of out, and the later bytes are left. Result: the reading's number of records, 4
+ * bytes each.
+ *
+ * The reading of each line goes to reading, and its tokens to first for lines 0, 2, 4 and so on, to second for the others. Buffers that are always
+ * long enough, for lines of up to n bytes, line_records and page_records:
+ *     work     the larger of trace_work_size(line_records, n) and trace_work_size(page_records, the number of lines)
+ *     reading  trace_reading_size(line_records, n)
+ *     first    trace_tokens_size(n), and so for second
+ *     out      trace_reading_size(page_records, the number of lines)
+ *
+ * Refusals, in this order, each with the one that it names (trace_who): 1 to 6 and 9 for the line rules, then for the page rules; 20 for the page;
+ * then the lines, one after the other, each by 7, 10, 8, 11 of reading and 11 of its own one of first and second, with the line's number as the
+ * detail; then 10, 8 and 11 for the page, as trace_read refuses its class bytes. A refusal leaves out as it was. Those that name the rules, and 20,
+ * leave work, reading, first and second as they were; after anything else their content is free.
+ */
+uint64_t trace_page(const uint8_t *line_table, size_t line_table_len, uint64_t line_start, const uint8_t *page_table, size_t page_table_len,
+                    uint64_t page_start, const uint8_t *page, size_t page_len, uint8_t *work, size_t work_len, uint8_t *reading,
+                    size_t reading_len, uint8_t *first, size_t first_len, uint8_t *second, size_t second_len, uint8_t *out,
+                    size_t out_len);
 
 #ifdef __cplusplus
 }

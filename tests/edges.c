@@ -1,8 +1,8 @@
 /*
- * Every refusal of Read, Spell, Compare, Tokens, Compile, Order and the calls on a live line at its edge, with the answers that documents 01 and 02
- * state; buffers and live lines are compared byte for byte. Readings with every wrong length and record number. Other at its bounds. Empty tagged
- * parts, which are no tokens. Names that must come first. Live lines typed and filled by hand, and the places of their fields. And null pointers with
- * length 0, in all ten calls.
+ * Every refusal of Read, Spell, Compare, Tokens, Compile, Order, Page and the calls on a live line at its edge, with the answers that documents 01 and
+ * 02 state; buffers and live lines are compared byte for byte. Readings with every wrong length and record number. Other at its bounds. Empty tagged
+ * parts, which are no tokens. Names that must come first. Live lines typed and filled by hand, and the places of their fields. Pages of every kind of
+ * line, in buffers of exactly the sizes that they need. And null pointers with length 0, in all eleven calls.
  * Prints the number of answers, or the first one that is wrong.
  */
 #include <stdio.h>
@@ -13,6 +13,8 @@
 #include "trace.h"
 
 #define REFUSED(number, detail) ((uint64_t)(number) << 32 | (uint64_t)(detail))
+/* The same by trace_page, with the one that is named. */
+#define NAMED(who, number, detail) ((uint64_t)(who) << 56 | REFUSED(number, detail))
 
 typedef struct { const uint8_t *at; size_t length; } Bytes;
 #define BYTES(...) ((Bytes){(const uint8_t[]){__VA_ARGS__}, sizeof((const uint8_t[]){__VA_ARGS__})})
@@ -38,6 +40,16 @@ static void expect_buffer(const char *name, const uint8_t *out, size_t length, B
     for (size_t i = 0; i < length; i++)
         if (out[i] != (i < front.length ? front.at[i] : 0xee)) {
             printf("edges: %s: byte %zu of the buffer\n", name, i);
+            exit(1);
+        }
+}
+
+/* Of a buffer that was filled with bytes of 0xdd, those between the two places are left. */
+static void expect_left(const char *name, const char *buffer, const uint8_t *bytes, size_t from, size_t to)
+{
+    for (size_t i = from; i < to; i++)
+        if (bytes[i] != 0xdd) {
+            printf("edges: %s: byte %zu of the %s\n", name, i, buffer);
             exit(1);
         }
 }
@@ -72,11 +84,7 @@ static void read(const char *name, Bytes table, uint64_t start, Bytes line, size
     memset(out, 0xee, sizeof out);
     expect(name, trace_read(table.at, table.length, start, line.at, line.length, work, work_room, out, room), want);
     expect_buffer(name, out, sizeof out, front);
-    for (size_t i = kept ? 0 : work_room; i < sizeof work; i++)
-        if (work[i] != 0xdd) {
-            printf("edges: %s: byte %zu of the work area\n", name, i);
-            exit(1);
-        }
+    expect_left(name, "work area", work, kept ? 0 : work_room, sizeof work);
 }
 
 /* A reading that does not fit, in each call; the other one fits. */
@@ -195,16 +203,46 @@ static void very_many_tokens(Pairs pairs)
     munmap(zeros, length);
 }
 
+/* A table and a start number. */
+typedef struct { Bytes table; uint64_t start; } Rules;
+
+/* Those of a text; the table is written to a buffer of TRACE_MAX_TABLE bytes. A text that is refused gives an empty one. */
+static Rules compiled(Bytes text, uint8_t *table)
+{
+    uint64_t records = trace_compile(text.at, text.length, table, TRACE_MAX_TABLE);
+    return (Rules){{table, trace_is_refused(records) ? 0 : TRACE_TABLE_RECORD * records}, records - 1};
+}
+
 /* Compile, Read, the tokens of what it wrote, and their order. */
 static void ordered(const char *name, Bytes text, Bytes line, Bytes list, Pairs pairs, uint64_t want)
 {
     static uint8_t table[TRACE_MAX_TABLE], work[20000], reading[4000];
-    uint64_t records = trace_compile(text.at, text.length, table, sizeof table);
-    Bytes made = {table, trace_is_refused(records) ? 0 : TRACE_TABLE_RECORD * records};
-    uint64_t written = trace_read(made.at, made.length, records - 1, line.at, line.length, work, sizeof work, reading, sizeof reading);
+    Rules made = compiled(text, table);
+    uint64_t written = trace_read(made.table.at, made.table.length, made.start, line.at, line.length, work, sizeof work, reading, sizeof reading);
     Bytes front = {reading, trace_is_refused(written) ? 0 : TRACE_READING_RECORD * written};
-    tokens(name, made, records - 1, front, list.length, list.length / TRACE_TOKEN, list);
+    tokens(name, made.table, made.start, front, list.length, list.length / TRACE_TOKEN, list);
     order(name, list, pairs, want);
+}
+
+/* Tables and start numbers that are refused, each with its refusal. The table of the last ones has two records. */
+static void each_wrong(void (*put)(const char *, Bytes, uint64_t, uint64_t))
+{
+    static const uint8_t zeros[1024];
+    Bytes two = BYTES(2, 0, 255, 0, 5, 0, 0, 0);
+    put("no byte", empty, 0, REFUSED(1, 0));
+    put("null", (Bytes){NULL, 0}, 0, REFUSED(1, 0));
+    put("3 bytes", BYTES(1, 0, 0), 0, REFUSED(1, 0));
+    put("1,021 bytes", (Bytes){zeros, 1021}, 0, REFUSED(1, 0));
+    put("1,024 bytes", (Bytes){zeros, 1024}, 0, REFUSED(1, 0));
+    put("a kind above 6", BYTES(1, 0, 0, 0, 7, 0, 0, 0), 0, REFUSED(2, 1));
+    put("an unused field", BYTES(1, 1, 0, 0), 0, REFUSED(3, 0));
+    put("bounds", BYTES(2, 5, 4, 0), 0, REFUSED(4, 0));
+    put("a child that is not below", BYTES(5, 0, 0, 0), 0, REFUSED(5, 0));
+    put("a child that is named twice", BYTES(1, 0, 0, 0, 3, 0, 0, 0), 0, REFUSED(6, 1));
+    put("2 before 9", BYTES(7, 0, 0, 0), 1, REFUSED(2, 0));
+    put("start m", two, 2, REFUSED(9, 0));
+    put("start 2^32 + 1", two, (1ULL << 32) + 1, REFUSED(9, 0));
+    put("the largest start", two, UINT64_MAX, REFUSED(9, 0));
 }
 
 /* A table of one letter: bytes that it holds, each as a line and as a reading, bytes that it does not hold, and the empty line. */
@@ -300,9 +338,7 @@ static void live(const char *name, int key, size_t room, uint64_t want)
     else if (!refused)
         line.bytes[line.count++] = (uint8_t)key;
     expect_line(name, &line);
-    for (size_t i = refused ? 0 : room; i < room + 64; i++)
-        if (live_work[i] != 0xdd)
-            wrong_line(name, "a byte of the work area");
+    expect_left(name, "work area", live_work, refused ? 0 : room, room + 64);
 }
 
 /* A live line filled by hand; its spare bytes are a pattern. */
@@ -385,20 +421,7 @@ static void live_made(Bytes t1, Bytes longest)
     make("1,020 bytes", longest, 254, 255);
     make("1,020 bytes, the last one 9", (Bytes){tagged, sizeof tagged}, 0, 255);
     make("one record", BYTES(0, 0, 0, 9), 0, 1);
-    make("no byte", empty, 0, REFUSED(1, 0));
-    make("null", (Bytes){NULL, 0}, 0, REFUSED(1, 0));
-    make("3 bytes", BYTES(1, 0, 0), 0, REFUSED(1, 0));
-    make("1,021 bytes", (Bytes){live_work, 1021}, 0, REFUSED(1, 0));
-    make("1,024 bytes", (Bytes){live_work, 1024}, 0, REFUSED(1, 0));
-    make("a kind above 6", BYTES(1, 0, 0, 0, 7, 0, 0, 0), 0, REFUSED(2, 1));
-    make("an unused field", BYTES(1, 1, 0, 0), 0, REFUSED(3, 0));
-    make("bounds", BYTES(2, 5, 4, 0), 0, REFUSED(4, 0));
-    make("a child that is not below", BYTES(5, 0, 0, 0), 0, REFUSED(5, 0));
-    make("a child that is named twice", BYTES(1, 0, 0, 0, 3, 0, 0, 0), 0, REFUSED(6, 1));
-    make("start m", t1, 10, REFUSED(9, 0));
-    make("start 2^32 + 9", t1, (1ULL << 32) + 9, REFUSED(9, 0));
-    make("the largest start", t1, UINT64_MAX, REFUSED(9, 0));
-    make("2 before 9", BYTES(7, 0, 0, 0), 1, REFUSED(2, 0));
+    each_wrong(make);
     /* a refused line is one of a Nothing record: it has no reading and gets none */
     live("a refused line, Take back", BACK, 0, REFUSED(19, 0));
     taken("a refused line, Add", 'a', 0);
@@ -509,7 +532,360 @@ static void live_by_hand(Bytes t1)
 }
 
 /*
- * Every choice of empty arguments, for each call: a null pointer with length 0 gets the answer of a valid pointer with length 0, and the
+ * Pages. By the letters each a is a token 1, each b a token 2, each row of d one token 3, and c is none. By one_each the class bytes are read one by
+ * one, whichever they are, so that the reading shows them.
+ */
+static uint8_t letters_table[TRACE_MAX_TABLE];
+static Rules letters, one_each;
+
+/* The buffers that trace_page writes to, and their lengths. */
+enum { WORK, READING, FIRST, SECOND, OUT, BUFFERS };
+static const char *const buffers[] = {"work area", "reading", "first token buffer", "second token buffer"};
+typedef struct { size_t of[BUFFERS]; } Rooms;
+static const Rooms ample = {{400000, 12000, 800, 800, 2048}}, no_room;
+
+static void page(const char *name, Rules lines, Rules runs, Bytes text, Rooms rooms, uint64_t want, Bytes front)
+{
+    static uint8_t lent[BUFFERS][400064];
+    const size_t *of = rooms.of;
+    int kept = trace_who(want) == TRACE_WHO_LINE_RULES || trace_who(want) == TRACE_WHO_PAGE_RULES || trace_refusal(want) == TRACE_REFUSED_LINES;
+    for (int i = 0; i < BUFFERS; i++)
+        memset(lent[i], i == OUT ? 0xee : 0xdd, of[i] + 64);
+    expect(name,
+           trace_page(lines.table.at, lines.table.length, lines.start, runs.table.at, runs.table.length, runs.start, text.at, text.length, lent[WORK],
+                      of[WORK], lent[READING], of[READING], lent[FIRST], of[FIRST], lent[SECOND], of[SECOND], lent[OUT], of[OUT]),
+           want);
+    expect_buffer(name, lent[OUT], of[OUT] + 64, front);
+    for (int i = 0; i < OUT; i++)
+        expect_left(name, buffers[i], lent[i], kept ? 0 : of[i], of[i] + 64);
+}
+
+/* The same by the letters and one_each. */
+static void letter_page(const char *name, Bytes text, Rooms rooms, uint64_t want, Bytes front)
+{
+    page(name, letters, one_each, text, rooms, want, front);
+}
+
+/* What a page needs of a buffer, and the number with which it is refused by less. */
+typedef struct { size_t room; uint64_t refused; } Need;
+
+static void more(Need *need, size_t room, uint64_t refused)
+{
+    if (room > need->room)
+        *need = (Need){room, refused};
+}
+
+/* What each line of a page needs of the buffers, and its class bytes of the work area. Each line must have a reading. */
+static void find_needs(Rules lines, Rules runs, Bytes text, size_t classes, Need *needs)
+{
+    static uint8_t work[400000], reading[20000], tokens[765];
+    size_t number = 0;
+    for (size_t at = 0, end; at < text.length; at = end + 1, number++) {
+        for (end = at; end < text.length && text.at[end] != '\n'; end++)
+            ;
+        Bytes table = lines.table;
+        uint64_t records = trace_read(table.at, table.length, lines.start, text.at + at, end - at, work, sizeof work, reading, sizeof reading);
+        uint64_t count = trace_tokens(table.at, table.length, lines.start, reading, TRACE_READING_RECORD * records, tokens, sizeof tokens);
+        more(&needs[WORK], trace_work_size(table.length / TRACE_TABLE_RECORD, end - at), NAMED(TRACE_WHO_LINE, 10, number));
+        more(&needs[READING], TRACE_READING_RECORD * records, NAMED(TRACE_WHO_LINE, 11, number));
+        more(&needs[number % 2 ? SECOND : FIRST], TRACE_TOKEN * count, NAMED(TRACE_WHO_LINE, 11, number));
+    }
+    more(&needs[WORK], trace_work_size(runs.table.length / TRACE_TABLE_RECORD, classes), REFUSED(10, 0));
+}
+
+/* A page that is read: in buffers of exactly the sizes that it needs, and with each of them one byte shorter, and of none. */
+static void read_page(const char *name, Rules lines, Rules runs, Bytes text, size_t classes, Bytes front)
+{
+    Need needs[BUFFERS] = {{0, 0}};
+    Rooms exact;
+    find_needs(lines, runs, text, classes, needs);
+    needs[OUT] = (Need){front.length, REFUSED(11, front.length)};
+    for (int i = 0; i < BUFFERS; i++)
+        exact.of[i] = needs[i].room;
+    page(name, lines, runs, text, exact, front.length / TRACE_READING_RECORD, front);
+    page(name, lines, runs, text, ample, front.length / TRACE_READING_RECORD, front);
+    for (int i = 0; i < BUFFERS; i++) {
+        Rooms shorter = exact;
+        if (needs[i].room == 0)
+            continue;
+        shorter.of[i] = needs[i].room - 1;
+        page(name, lines, runs, text, shorter, needs[i].refused, empty);
+    }
+}
+
+/* The reading of class bytes by one_each. */
+static Bytes each_class(Bytes classes)
+{
+    static uint8_t reading[TRACE_READING_RECORD * (1 + TRACE_MAX_LINES)];
+    memcpy(reading, BYTES(R(5, (uint8_t)classes.length, (uint8_t)classes.length, 1)).at, TRACE_READING_RECORD);
+    for (size_t i = 0; i < classes.length; i++)
+        memcpy(reading + TRACE_READING_RECORD * (i + 1), BYTES(R(1, classes.at[i], 1, 0)).at, TRACE_READING_RECORD);
+    return (Bytes){reading, TRACE_READING_RECORD * (1 + classes.length)};
+}
+
+/* A page by the letters, and its class bytes. */
+static void classes_of(const char *name, Bytes text, Bytes classes)
+{
+    read_page(name, letters, one_each, text, classes.length, each_class(classes));
+}
+
+/* Each form of a page and of its lines, and the class bytes. Which lines are alike stands here and nowhere else in this file. */
+static void page_classes(void)
+{
+    classes_of("no byte", empty, empty);
+    classes_of("a lone byte 10", TEXT("\n"), BYTES(0));
+    classes_of("two bytes 10", TEXT("\n\n"), BYTES(0));
+    classes_of("a line without its byte 10", TEXT("a"), BYTES(1));
+    classes_of("a line with its byte 10", TEXT("a\n"), BYTES(1));
+    classes_of("an empty line behind one", TEXT("a\n\n"), BYTES(1, 0));
+    classes_of("an empty line ahead of one", TEXT("\na"), BYTES(0, 1));
+    classes_of("an empty line between two", TEXT("a\n\na"), BYTES(1, 0, 1));
+    classes_of("two alike", TEXT("a\na"), BYTES(1));
+    classes_of("two alike, a closing byte 10", TEXT("a\na\n"), BYTES(1));
+    classes_of("two that are not", TEXT("a\nb"), BYTES(1, 2));
+    classes_of("alike with one between", TEXT("a\nb\na"), BYTES(1, 2, 1));
+    classes_of("runs", TEXT("a\na\na\nb\nb\na\na"), BYTES(1, 2, 1));
+    classes_of("the names in another order", TEXT("ab\nba"), BYTES(1, 2));
+    classes_of("the names in another order behind the first", TEXT("abd\nadb"), BYTES(1, 1));
+    classes_of("one name more", TEXT("a\nab"), BYTES(1, 1));
+    classes_of("one name less", TEXT("ab\na"), BYTES(1, 1));
+    classes_of("the same name once more", TEXT("a\naa\na"), BYTES(1, 1, 1));
+    classes_of("the last name another", TEXT("aab\naad"), BYTES(1, 1));
+    classes_of("the first name another", TEXT("abb\nbbb"), BYTES(1, 2));
+    classes_of("other offsets", TEXT("ab\ncab\nccacbc"), BYTES(1));
+    classes_of("other lengths", TEXT("d\ndd\nddd"), BYTES(3));
+    classes_of("other lengths and offsets", TEXT("da\nddca"), BYTES(3));
+    classes_of("no token", TEXT("c"), BYTES(0));
+    classes_of("no token, and no byte", TEXT("c\n\ncc\n"), BYTES(0));
+    classes_of("no token between", TEXT("a\nc\na"), BYTES(1, 0, 1));
+    classes_of("tokens between", TEXT("c\na\nc"), BYTES(0, 1, 0));
+    /* the token buffers: lines with tokens only in even places, only in odd ones, and longer lists in each of them */
+    classes_of("tokens in even lines alone", TEXT("aa\n\nbb\nc"), BYTES(1, 0, 2, 0));
+    classes_of("tokens in odd lines alone", TEXT("\naa\nc\nbb"), BYTES(0, 1, 0, 2));
+    classes_of("longer lists in even lines", TEXT("aab\na\nbba\nb"), BYTES(1, 1, 2, 2));
+    classes_of("longer lists in odd lines", TEXT("a\naab\nb\nbba"), BYTES(1, 1, 2, 2));
+    /* three lines of which the first and the third share a buffer */
+    classes_of("the third as the first", TEXT("ab\nb\nab\nab"), BYTES(1, 2, 1));
+    classes_of("the third as the second", TEXT("ab\nb\nb"), BYTES(1, 2));
+}
+
+/* The tokens of the page's own reading, and page rules that choose: the worked example of docs/FORMATS.md. */
+static void page_worked(void)
+{
+    static uint8_t line_table[TRACE_MAX_TABLE], page_table[TRACE_MAX_TABLE];
+    Rules lines = compiled(TEXT("[0-9][0-9]:[0-9][0-9] ((lift)#108|(brake)#098) ([0-9][0-9]*)#116"), line_table);
+    Rules runs = compiled(TEXT("l*#001b#002"), page_table);
+    Bytes lap = TEXT("12:04 lift 29\n12:05 lift 31\n12:06 brake 104\n"), reading = BYTES(R(4, 0, 2, 3), R(5, 1, 1, 1), R(1, 'l', 1, 0), R(1, 'b', 1, 2));
+    expect("the lap, its line rules", lines.table.length, 144);
+    expect("the lap, its page rules", runs.table.length, 16);
+    read_page("the lap", lines, runs, lap, 2, reading);
+    tokens("the lap", runs.table, runs.start, reading, 6, 2, BYTES(1, 0, 1, 2, 1, 1));
+    page("the lap, line 1 by 8", lines, runs, TEXT("12:04 lift 29\n12:05 lift\n12:06 brake 104\n"), ample, NAMED(3, 8, 1), empty);
+    page("the lap without a brake", lines, runs, TEXT("12:04 lift 29\n12:05 lift 31\n"), ample, REFUSED(8, 0), empty);
+    page("the lap, no room for its reading", lines, runs, lap, (Rooms){{400000, 12000, 800, 800, 15}}, REFUSED(11, 16), empty);
+    page("the lap without a line", lines, runs, empty, ample, REFUSED(8, 0), empty);
+    page("no line, and page rules for it", lines, (Rules){runs.table, 1}, empty, ample, 1, BYTES(R(5, 0, 0, 1)));
+}
+
+/* So many lines, each a, or a and b by turns, all with a byte 10 or the last without one. */
+static Bytes many_lines(size_t count, int by_turns, int closed)
+{
+    static uint8_t text[2000];
+    for (size_t i = 0; i < count; i++)
+        text[2 * i] = by_turns && i % 2 ? 'b' : 'a', text[2 * i + 1] = '\n';
+    return (Bytes){text, 2 * count - (closed ? 0 : 1)};
+}
+
+/* 20 at 256 lines, and class bytes up to 255. */
+static void page_counts(void)
+{
+    uint8_t classes[TRACE_MAX_LINES], nothing[70000];
+    for (size_t i = 0; i < sizeof classes; i++)
+        classes[i] = (uint8_t)(1 + i % 2);
+    memset(nothing, '\n', sizeof nothing);
+    for (int closed = 0; closed < 2; closed++) {
+        for (size_t count = 1; count <= TRACE_MAX_LINES; count += count < 250 ? 83 : 1) {
+            classes_of("so many lines", many_lines(count, 1, closed), (Bytes){classes, count});
+            classes_of("so many lines that are alike", many_lines(count, 0, closed), BYTES(1));
+        }
+        for (size_t count = TRACE_MAX_LINES + 1; count < TRACE_MAX_LINES + 4; count++) {
+            letter_page("256 lines and more", many_lines(count, 1, closed), ample, REFUSED(20, 0), empty);
+            letter_page("256 lines and more that are alike", many_lines(count, 0, closed), ample, REFUSED(20, 0), empty);
+            letter_page("256 lines and more, no buffer", many_lines(count, 1, closed), no_room, REFUSED(20, 0), empty);
+        }
+    }
+    classes_of("255 empty lines", (Bytes){nothing, 255}, BYTES(0));
+    letter_page("256 empty lines", (Bytes){nothing, 256}, ample, REFUSED(20, 0), empty);
+    letter_page("512 empty lines", (Bytes){nothing, 512}, ample, REFUSED(20, 0), empty);
+    letter_page("65,536 empty lines", (Bytes){nothing, 65536}, ample, REFUSED(20, 0), empty);
+    letter_page("70,000 empty lines", (Bytes){nothing, sizeof nothing}, no_room, REFUSED(20, 0), empty);
+    nothing[255] = 'a';
+    letter_page("255 empty lines, and one more", (Bytes){nothing, 256}, ample, REFUSED(20, 0), empty);
+    nothing[254] = 'a', nothing[255] = '\n';
+    classes_of("254 empty lines, and one more", (Bytes){nothing, 256}, BYTES(0, 1));
+}
+
+/* 7 at a line of 256 bytes, wherever it stands; and pages of 255 lines of 255 bytes. */
+static void page_long_lines(void)
+{
+    static uint8_t text[256 * 255];
+    memset(text, 'c', sizeof text);
+    for (size_t line = 0; line < 3; line++)
+        for (size_t length = 255; length < 258; length++) {
+            Bytes whole = {text, line * 2 + length};
+            for (size_t i = 0; i < line; i++)
+                text[2 * i + 1] = '\n';
+            if (length == 255)
+                classes_of("a line of 255 bytes", whole, BYTES(0));
+            else
+                letter_page("a line of 256 bytes and more", whole, ample, NAMED(TRACE_WHO_LINE, 7, line), empty);
+            letter_page("a long line, no buffer", whole, no_room, NAMED(TRACE_WHO_LINE, line == 0 && length > 255 ? 7 : 10, 0), empty);
+            memset(text, 'c', 8);
+        }
+    letter_page("65,280 bytes in one line", (Bytes){text, sizeof text}, ample, NAMED(TRACE_WHO_LINE, 7, 0), empty);
+    for (size_t line = 0; line < 255; line++)
+        text[256 * line + 254] = line % 2 ? 'b' : 'a', text[256 * line + 255] = '\n';
+    uint8_t classes[255];
+    for (size_t line = 0; line < 255; line++)
+        classes[line] = (uint8_t)(1 + line % 2);
+    classes_of("255 lines of 255 bytes", (Bytes){text, sizeof text}, (Bytes){classes, 255});
+    classes_of("255 lines of 255 bytes, the last without its byte 10", (Bytes){text, sizeof text - 1}, (Bytes){classes, 255});
+}
+
+/* Rules that are refused, before all that comes behind them: other rules, 256 lines, and every buffer. */
+static void before_the_rest(const char *name, Rules lines, Rules runs, uint64_t want)
+{
+    page(name, lines, runs, TEXT("a\nb"), ample, want, empty);
+    page(name, lines, runs, TEXT("x"), no_room, want, empty);
+    page(name, lines, runs, many_lines(256, 1, 1), ample, want, empty);
+    page(name, lines, runs, empty, no_room, want, empty);
+    page(name, lines, runs, (Bytes){NULL, 0}, ample, want, empty);
+}
+
+static void wrong_line_rules(const char *name, Bytes table, uint64_t start, uint64_t want)
+{
+    Rules wrong = {table, start};
+    want |= NAMED(TRACE_WHO_LINE_RULES, 0, 0);
+    before_the_rest(name, wrong, one_each, want);
+    before_the_rest(name, wrong, (Rules){BYTES(7, 0, 0, 0), 0}, want);
+    before_the_rest(name, wrong, (Rules){one_each.table, 2}, want);
+    before_the_rest(name, wrong, (Rules){{NULL, 0}, 0}, want);
+}
+
+static void wrong_page_rules(const char *name, Bytes table, uint64_t start, uint64_t want)
+{
+    before_the_rest(name, letters, (Rules){table, start}, want | NAMED(TRACE_WHO_PAGE_RULES, 0, 0));
+}
+
+/* The refusals in their order. */
+static void page_order(void)
+{
+    each_wrong(wrong_line_rules);
+    each_wrong(wrong_page_rules);
+
+    /* 20 before the lines, whatever they are */
+    uint8_t text[1024];
+    memset(text, '\n', sizeof text);
+    text[0] = 'x';
+    letter_page("20 before 8 of line 0", (Bytes){text, 257}, ample, REFUSED(20, 0), empty);
+    memset(text, 'a', 300);
+    letter_page("20 before 7 of line 0", (Bytes){text, 600}, ample, REFUSED(20, 0), empty);
+    letter_page("255 lines, 7 of line 0", (Bytes){text, 300 + 255}, ample, NAMED(TRACE_WHO_LINE, 7, 0), empty);
+
+    /* the lines in order, each by all that it is refused by before the next is looked at */
+    uint8_t over[260];
+    memset(over, 'a', sizeof over);
+    memcpy(over, "x\n", 2), memcpy(over + 258, "\nx", 2);
+    letter_page("8 of line 0 before 7 of line 1", (Bytes){over, 258}, ample, NAMED(TRACE_WHO_LINE, 8, 0), empty);
+    letter_page("7 of line 0 before 8 of line 1", (Bytes){over + 2, 258}, ample, NAMED(TRACE_WHO_LINE, 7, 0), empty);
+    letter_page("8 of line 1", TEXT("a\nx"), ample, NAMED(TRACE_WHO_LINE, 8, 1), empty);
+    letter_page("8 of line 2", TEXT("a\nb\nx\n"), ample, NAMED(TRACE_WHO_LINE, 8, 2), empty);
+    letter_page("8 of line 1 before that of line 2", TEXT("a\nx\nx"), ample, NAMED(TRACE_WHO_LINE, 8, 1), empty);
+    letter_page("a byte 13 is one of the line", TEXT("a\r\nb\r\n"), ample, NAMED(TRACE_WHO_LINE, 8, 0), empty);
+    for (size_t i = 0; i < 255; i++)
+        memcpy(text + 2 * i, "a\n", 2);
+    text[508] = 'x';
+    letter_page("8 of line 254", (Bytes){text, 510}, ample, NAMED(TRACE_WHO_LINE, 8, 254), empty);
+    letter_page("8 of line 254, which is not ended", (Bytes){text, 509}, ample, NAMED(TRACE_WHO_LINE, 8, 254), empty);
+
+    /* 7, 10, 8, 11 of the reading, 11 of the tokens: each with what comes behind it wrong too. Line 0, ab, needs these. */
+    size_t records = letters.table.length / TRACE_TABLE_RECORD, two_bytes = trace_work_size(records, 2), three = trace_work_size(records, 3);
+    Need need[BUFFERS] = {{0, 0}};
+    find_needs(letters, one_each, TEXT("ab"), 1, need);
+    size_t reading = need[READING].room;
+    letter_page("10 before 8", TEXT("ax"), (Rooms){{two_bytes - 1, 0, 0, 0, 0}}, NAMED(3, 10, 0), empty);
+    letter_page("8 before 11", TEXT("ax"), (Rooms){{two_bytes, 0, 0, 0, 0}}, NAMED(3, 8, 0), empty);
+    letter_page("11 of the reading", TEXT("ab"), (Rooms){{two_bytes, reading - 1, 0, 0, 0}}, NAMED(3, 11, 0), empty);
+    letter_page("11 of the tokens", TEXT("ab"), (Rooms){{two_bytes, reading, 5, 800, 0}}, NAMED(3, 11, 0), empty);
+    letter_page("11 of the page", TEXT("ab"), (Rooms){{two_bytes, reading, 6, 0, 0}}, REFUSED(11, 8), empty);
+    letter_page("11 of the page, one byte short", TEXT("ab"), (Rooms){{two_bytes, reading, 6, 0, 7}}, REFUSED(11, 8), empty);
+    letter_page("11 of line 0 before 10 of line 1", TEXT("ab\nabc"), (Rooms){{two_bytes, reading, 5, 800, 0}}, NAMED(3, 11, 0), empty);
+    letter_page("10 of line 1", TEXT("ab\nabc"), (Rooms){{three - 1, 800, 6, 0, 0}}, NAMED(3, 10, 1), empty);
+    letter_page("11 of line 1", TEXT("ab\nabc"), (Rooms){{three, reading, 6, 6, 0}}, NAMED(3, 11, 1), empty);
+    letter_page("11 of the second buffer", TEXT("ab\nabc"), (Rooms){{three, 800, 6, 5, 0}}, NAMED(3, 11, 1), empty);
+    letter_page("8 of line 2, behind them", TEXT("ab\nabc\nx"), (Rooms){{three, 800, 6, 6, 0}}, NAMED(3, 8, 2), empty);
+
+    /* 11 is judged on the line's own token buffer */
+    letter_page("no first buffer, no token in even lines", TEXT("c\nab\n\nb"), (Rooms){{two_bytes, 800, 0, 6, 2048}}, 5, each_class(BYTES(0, 1, 0, 2)));
+    letter_page("no second buffer, no token in odd lines", TEXT("ab\nc\nb\n"), (Rooms){{two_bytes, 800, 6, 0, 2048}}, 4, each_class(BYTES(1, 0, 2)));
+    letter_page("a short first buffer", TEXT("a\nab\nab"), (Rooms){{two_bytes, 800, 3, 800, 2048}}, NAMED(3, 11, 2), empty);
+    letter_page("a short second buffer", TEXT("ab\nab\nab"), (Rooms){{two_bytes, 800, 800, 5, 2048}}, NAMED(3, 11, 1), empty);
+    letter_page("no second buffer, one line", TEXT("ab"), (Rooms){{two_bytes, 800, 6, 0, 2048}}, 2, each_class(BYTES(1)));
+
+    /* the page's own: 10 by the class bytes, then 8, then 11. By 5 records one class byte needs 15 bytes, and a line of one byte by one record 3. */
+    static uint8_t page_table[TRACE_MAX_TABLE];
+    Rules one = {BYTES(6, 0, 0, 1), 0}, three_ones = compiled(TEXT("\x01\x01\x01"), page_table);
+    page("10 of the page", one, three_ones, TEXT("a"), (Rooms){{14, 800, 3, 0, 0}}, REFUSED(10, 0), empty);
+    page("8 of the page", one, three_ones, TEXT("a"), (Rooms){{15, 800, 3, 0, 0}}, REFUSED(8, 0), empty);
+    page("10 of the page goes by the runs", one, three_ones, TEXT("a\nb\nc\nd"), (Rooms){{15, 800, 3, 3, 0}}, REFUSED(8, 0), empty);
+    page("10 of the page without a line", one, three_ones, empty, (Rooms){{4, 0, 0, 0, 0}}, REFUSED(10, 0), empty);
+    page("8 of the page without a line", one, three_ones, empty, (Rooms){{5, 0, 0, 0, 0}}, REFUSED(8, 0), empty);
+    page("11 of the page without a line", one, one_each, empty, (Rooms){{2, 0, 0, 0, 3}}, REFUSED(11, 4), empty);
+    page("a page without a line, no buffer for lines", one, one_each, empty, (Rooms){{2, 0, 0, 0, 4}}, 1, BYTES(R(5, 0, 0, 1)));
+    page("8 of line 1 before 8 of the page", one, three_ones, (Bytes){(const uint8_t *)"a\n\0", 3}, ample, NAMED(3, 8, 1), empty);
+    page("a page by the line rules' own table", letters, letters, TEXT("c\nc"), ample, REFUSED(8, 0), empty);
+    page("class bytes of 255", (Rules){BYTES(2, 'a', 'a', 255), 0}, (Rules){BYTES(2, 255, 255, 0), 0}, TEXT("a"), ample, 1, BYTES(R(1, 255, 1, 0)));
+    page("start numbers inside", (Rules){letters.table, 0}, (Rules){one_each.table, 0}, TEXT("a\na"), ample, 1, BYTES(R(1, 1, 1, 0)));
+    page("a start number inside, two classes", letters, (Rules){one_each.table, 0}, TEXT("a\nb"), ample, REFUSED(8, 0), empty);
+}
+
+/* Every choice of empty arguments: a null pointer with length 0 gets the answer of a valid one with length 0, and leaves the same in the buffer. */
+static void page_nulls(Bytes text)
+{
+    static uint8_t lent[2][BUFFERS][400000], spare[1];
+    for (int empties = 0; empties < 256; empties++) {
+        uint64_t got[2];
+        for (int null = 0; null < 2; null++) {
+            uint8_t *at = null ? NULL : spare, (*to)[400000] = lent[null];
+            memset(to[OUT], 0xee, 2048);
+#define ARG(i, pointer, length) (empties >> (i) & 1 ? at : (pointer)), (empties >> (i) & 1 ? 0 : (length))
+#define LENT(i) ARG(i, to[i], ample.of[i])
+            got[null] = trace_page(ARG(5, letters.table.at, letters.table.length), letters.start, ARG(6, one_each.table.at, one_each.table.length),
+                                   one_each.start, ARG(7, text.at, text.length), LENT(WORK), LENT(READING), LENT(FIRST), LENT(SECOND), LENT(OUT));
+#undef LENT
+#undef ARG
+        }
+        expect("null with length 0", got[1], got[0]);
+        expect_buffer("null with length 0", lent[1][OUT], 2048, (Bytes){lent[0][OUT], 2048});
+    }
+}
+
+static void pages(void)
+{
+    letters = compiled(TEXT("(a#001|b#002|(dd*)#003|c)*"), letters_table);
+    one_each = (Rules){BYTES(2, 0, 255, 0, 5, 0, 0, 0), 1};
+    page_classes();
+    page_worked();
+    page_counts();
+    page_long_lines();
+    page_order();
+    page_nulls(empty);
+    page_nulls(TEXT("c\n\n"));
+    page_nulls(TEXT("ab\nb"));
+}
+
+/*
+ * Every choice of empty arguments, for each call but Page: a null pointer with length 0 gets the answer of a valid pointer with length 0, and the
  * buffer is left the same. The bits of `empties`: 0 the table or the tokens, 1 the line or the reading, 2 the work area or the second reading, 3
  * the buffer or the pairs. The live line is the last one that was made.
  */
@@ -975,6 +1351,8 @@ int main(void)
     live_facts(t1, degrees);
     live_lengths(t1, (Bytes){comb, sizeof comb});
     live_by_hand(t1);
+
+    pages();
 
     /* null pointers: with a line, and where an empty line and an empty buffer are no refusal */
     nulls(t1, 9, abc, c, c);

@@ -1,7 +1,7 @@
 #!/usr/bin/env bash
 # example.sh FOLDER: what the example commissioning tool, in this folder, prints for its sample input, and its exit statuses; those of the example
-# that tries a rule on a line; what the one that shows the parts of a line prints; and what the test console says where it cannot begin. Run from the
-# repository's root.
+# that tries a rule on a line; what the one that shows the parts of a line prints; what the one that reads a lap prints for its sample and for laps that
+# are refused; and what the test console says where it cannot begin. Run from the repository's root.
 set -uo pipefail
 fail() {
     echo "example: $1"
@@ -43,6 +43,36 @@ record 0: offset 0, length 1: 2
 record 0: offset 1, length 1: 9
 record 2: offset 2, length 1: C
 END
+
+# laps LAP STATUS TEXT: what the example that reads a lap by other rules prints, and its exit status
+laps() {
+    says=$(printf "$1" | "$lap" "${lap_rules[@]}")
+    status=$?
+    [ "$status" -eq "$2" ] && [ "$says" = "$(printf "$3")" ] || fail "the lap '$1' gives status $status and '$says'"
+}
+lap=$1/lap
+diff examples/lap.expected <("$lap") || fail "other output than examples/lap.expected"
+lap_rules=('(l#108|b#098)([0-9]*)#116|-' '(ll*)#001(b*)#002')
+laps 'l1\nl2\nl\nb3\nb4' 0 'line 1: 108, run 1: l1\nline 2: 108, run 1: l2\nline 3: 108, run 2: l\nline 4: 98, run 3: b3\nline 5: 98, run 3: b4
+1: runs 1 to 2, lines 1 to 3\n2: run 3, lines 4 to 5'
+laps 'l1\nl2\n' 0 'line 1: 108, run 1: l1\nline 2: 108, run 1: l2\n1: run 1, lines 1 to 2'
+laps 'l1\n-\n' 1 'line 1: 108, run 1: l1\nline 2: no token, run 2: -\nthe lap: refused 8: the start record does not spell the line'
+laps '' 1 'the lap: refused 8: the start record does not spell the line'
+laps 'l1\n\nx' 1 'line 1: 108, run 1: l1\nline 2: refused 8: the start record does not spell the line'
+laps "l1\\nl2\\n$(printf '7%.0s' {1..256})" 1 'line 1: 108, run 1: l1\nline 2: 108, run 1: l2\nline 3: refused 7: the line is over 255 bytes long'
+laps "$(printf 'l\\n%.0s' {1..256})" 1 'the lap: refused 20: the page has over 255 lines'
+lap_rules=('(l' l)
+laps l 1 'the line rule: refused 15: the text is outside the notation, or over 4,096 bytes long'
+lap_rules=(l "$(printf 'l%.0s' {1..129})")
+laps l 1 "the lap rule: refused 16: the text's table has over 255 records"
+"$lap" l 2>/dev/null
+[ $? -eq 2 ] || fail "the status is not 2 with one rule alone"
+"$lap" l l <. >/dev/null 2>&1
+[ $? -eq 2 ] || fail "the status is not 2 where reading a lap fails"
+(ulimit -v 100000 && head -c 200000000 /dev/zero | "$lap" l l >/dev/null 2>&1)
+[ $? -eq 2 ] || fail "the status is not 2 where a lap is too long for the memory"
+"$lap" >/dev/full 2>/dev/null
+[ $? -eq 2 ] || fail "the status is not 2 where writing a lap fails"
 
 # turns_away STATUS TEXT ARGUMENT..: the test console, without a terminal
 turns_away() {

@@ -1,6 +1,6 @@
 /*
- * The header's own functions and its structs, in C and in C++: version, answers taken apart, refusals in words, sizes, pairs, live lines. Exit status
- * 0 if all is right.
+ * The header's own functions and its structs, in C and in C++: version, answers taken apart, refusals in words, sizes, pairs, live lines, pages. Exit
+ * status 0 if all is right.
  */
 #include <stdio.h>
 #include <string.h>
@@ -27,7 +27,7 @@ static void version(void)
 /* Each number from 0 to one past the last refusal has a text of its own, and all later ones have that of the first of them. */
 static void texts(void)
 {
-    uint32_t i, j, end = TRACE_REFUSED_EMPTY_LINE + 1;
+    uint32_t i, j, end = TRACE_REFUSED_LINES + 1;
     for (i = 0; i <= end; i++)
         for (j = 0; j < i; j++)
             expect("two numbers with one text", strcmp(trace_refusal_text(i), trace_refusal_text(j)) != 0);
@@ -90,6 +90,44 @@ static void live_lines(void)
     expect("a start number", trace_refusal(trace_live_new(&line, table, sizeof table, 3)) == TRACE_REFUSED_START && line.table_len == TRACE_TABLE_RECORD);
 }
 
+/* The four parts of an answer, each at its lowest and at its highest. */
+static void parts(void)
+{
+    uint64_t result = UINT32_MAX, refusal = (uint64_t)TRACE_REFUSED_LINES << 32, line = ((uint64_t)TRACE_WHO_LINE << 56) + refusal + 7;
+    expect("the parts of a result", trace_who(result) == 0 && trace_refusal(result) == 0 && trace_detail(result) == UINT32_MAX);
+    expect("a result that is not refused", !trace_is_refused(result));
+    expect("the parts of a refusal", trace_who(refusal) == TRACE_WHO_PAGE && trace_refusal(refusal) == 20 && trace_detail(refusal) == 0);
+    expect("the parts of a line's", trace_who(line) == 3 && trace_refusal(line) == 20 && trace_detail(line) == 7);
+    expect("each part alone", trace_who(UINT64_MAX) == 255 && trace_refusal(UINT64_MAX) == 0xFFFFFF && trace_detail(UINT64_MAX) == UINT32_MAX);
+    expect("a refusal with one that is named", trace_is_refused(line) && trace_is_refused(refusal));
+    expect("who is named", TRACE_WHO_PAGE == 0 && TRACE_WHO_LINE_RULES == 1 && TRACE_WHO_PAGE_RULES == 2 && TRACE_WHO_LINE == 3);
+}
+
+/* A page whose lines are one letter, a or b, a token 7, by page rules that take any number of classes 7. */
+static uint64_t read_page(const char *page, size_t page_len, uint64_t line_start, uint64_t page_start, uint8_t *out, size_t out_len)
+{
+    static const uint8_t line_table[] = {TRACE_RANGE, 'a', 'b', 7}, page_table[] = {TRACE_RANGE, 7, 7, 0, TRACE_STAR, 0, 0, 0};
+    uint8_t work[6], reading[4], first[3], second[3];
+    return trace_page(line_table, sizeof line_table, line_start, page_table, sizeof page_table, page_start, (const uint8_t *)page, page_len, work,
+                      sizeof work, reading, sizeof reading, first, sizeof first, second, sizeof second, out, out_len);
+}
+
+static void pages(void)
+{
+    uint8_t out[8];
+    uint64_t answer = read_page("a\nb\n", 4, 0, 1, out, sizeof out);
+    expect("a page", answer == 2 && trace_who(answer) == TRACE_WHO_PAGE && memcmp(out, "\5\1\1\1\1\7\1\0", sizeof out) == 0);
+    expect("the work area of its lines and of its class bytes", trace_work_size(1, 1) == 3 && trace_work_size(2, 1) == 6 && TRACE_MAX_LINES == 255);
+    answer = read_page("a\nc", 3, 0, 1, out, sizeof out);
+    expect("a line that is refused", trace_who(answer) == TRACE_WHO_LINE && trace_refusal(answer) == TRACE_REFUSED_NO_READING && trace_detail(answer) == 1);
+    answer = read_page("a", 1, 1, 1, out, sizeof out);
+    expect("line rules that are refused", trace_who(answer) == TRACE_WHO_LINE_RULES && trace_refusal(answer) == TRACE_REFUSED_START);
+    answer = read_page("a", 1, 0, 2, out, sizeof out);
+    expect("page rules that are refused", trace_who(answer) == TRACE_WHO_PAGE_RULES && trace_refusal(answer) == TRACE_REFUSED_START);
+    answer = read_page("a", 1, 0, 1, out, 7);
+    expect("a page that is refused", trace_who(answer) == TRACE_WHO_PAGE && trace_refusal(answer) == TRACE_REFUSED_BUFFER && trace_detail(answer) == 8);
+}
+
 static void sizes(void)
 {
     expect("the work area's size", trace_work_size(10, 3) == 100 && trace_work_size(255, 255) == 8388480 && trace_work_size(1, 0) == 1);
@@ -105,6 +143,8 @@ int main(void)
     answers();
     pairs();
     live_lines();
+    parts();
+    pages();
     sizes();
     return bad;
 }

@@ -19,12 +19,13 @@ version=$(printf '#include <trace.h>\nTRACE_VERSION\n' | gcc -E -P $(pkg-config 
 
 # the examples, linked with the shared library, and with the archive
 cc="gcc -std=c99 -O2 -Wall -Wextra -Wpedantic -Werror"
-for example in commission rules parts console; do
+examples="commission rules parts console lap"
+for example in $examples; do
     $cc examples/$example.c $(pkg-config --cflags --libs trace) -o "$dir/$example"
     grep -q "libtrace.so.[0-9]* => $root/lib/" <<<"$(ldd "$dir/$example")"
 done
 bash tests/example.sh "$dir"
-for example in commission rules parts console; do
+for example in $examples; do
     $cc examples/$example.c $(pkg-config --cflags trace) "$(pkg-config --variable=libdir trace)/libtrace.a" -o "$dir/$example"
 done
 bash tests/example.sh "$dir"

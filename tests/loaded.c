@@ -1,5 +1,5 @@
 /*
- * loaded LIBRARY: opens the shared library at run time and makes each of the ten calls through it. Exit status 0 if every answer is right.
+ * loaded LIBRARY: opens the shared library at run time and makes each of the eleven calls through it. Exit status 0 if every answer is right.
  */
 #include <dlfcn.h>
 #include <stdio.h>
@@ -45,8 +45,10 @@ int main(int count, char **arguments)
     uint64_t (*live_new)(trace_live *, const uint8_t *, size_t, uint64_t);
     uint64_t (*live_add)(trace_live *, uint8_t, uint8_t *, size_t);
     uint64_t (*live_take_back)(trace_live *, uint8_t *, size_t);
+    uint64_t (*page)(const uint8_t *, size_t, uint64_t, const uint8_t *, size_t, uint64_t, const uint8_t *, size_t, uint8_t *, size_t, uint8_t *,
+                     size_t, uint8_t *, size_t, uint8_t *, size_t, uint8_t *, size_t);
     trace_live typed;
-    uint8_t work[100], reading[120], listed[90], line[3], made[TRACE_MAX_TABLE];
+    uint8_t work[100], reading[120], listed[90], line[3], made[TRACE_MAX_TABLE], first[9], second[9];
     void *library = dlopen(count == 2 ? arguments[1] : "", RTLD_NOW | RTLD_LOCAL);
     if (library == NULL) {
         printf("loaded: %s\n", dlerror());
@@ -62,6 +64,7 @@ int main(int count, char **arguments)
     find(library, "trace_live_new", &live_new);
     find(library, "trace_live_add", &live_add);
     find(library, "trace_live_take_back", &live_take_back);
+    find(library, "trace_page", &page);
 
     expect("check", check(table, sizeof table) == 10);
     expect("read", read(table, sizeof table, 9, (const uint8_t *)"abc", 3, work, sizeof work, reading, sizeof reading) == 8);
@@ -81,6 +84,12 @@ int main(int count, char **arguments)
     expect("take back", live_take_back(&typed, work, sizeof work) == TRACE_LIVE_EXTENDS && typed.count == 1 && typed.bytes[0] == 'b');
     expect("add again", live_add(&typed, 'c', work, sizeof work) == (TRACE_LIVE_READS | TRACE_LIVE_EXTENDS));
     expect("a byte that is refused", trace_refusal(live_add(&typed, 'a', work, 99)) == TRACE_REFUSED_WORK && typed.count == 2);
+#define PAGE(text) \
+    page(table, sizeof table, 9, made, 12, 2, (const uint8_t *)text, sizeof text - 1, work, sizeof work, reading, sizeof reading, first, sizeof first, \
+         second, sizeof second, listed, sizeof listed)
+    expect("the page's rules", compile((const uint8_t *)"\1\3", 2, made, sizeof made) == 3);
+    expect("page", PAGE("abc\nabc\nbc\n") == 3 && memcmp(listed, "\4\0\2\2\1\1\1\0\1\3\1\1", 12) == 0);
+    expect("a page with a line that is refused", PAGE("abc\nb\n") == ((uint64_t)TRACE_WHO_LINE << 56 | (uint64_t)TRACE_REFUSED_NO_READING << 32 | 1));
     dlclose(library);
     return 0;
 }

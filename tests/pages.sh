@@ -24,6 +24,14 @@ export PKG_CONFIG_PATH=$1/lib/pkgconfig LD_LIBRARY_PATH=$1/lib
 gcc -std=c99 -O2 -Wall -Wextra -Wpedantic -Werror examples/first.c $(pkg-config --cflags --libs trace) -o "$dir/first"
 "$dir/first" | diff <(listing 5) - || fail "examples/first.c prints something else"
 
+# docs/GUIDE.md has the rules of examples/lap.c, and shows what it prints
+sed -n 's/^static const char l[a-z]*_rule\[\] = "\(.*\)";$/\1/p' examples/lap.c >"$dir/rules"
+[ "$(wc -l <"$dir/rules")" -eq 2 ] || fail "examples/lap.c has other rules than two"
+while IFS= read -r rule; do
+    grep -qxF "rule: $rule" docs/GUIDE.md || fail "docs/GUIDE.md does not have the rule $rule"
+done <"$dir/rules"
+[[ $(<docs/GUIDE.md) == *"$(sed 's/^/    /' examples/lap.expected)"* ]] || fail "docs/GUIDE.md shows something else than examples/lap.expected"
+
 # README.md names every crate, and every C function that a program calls
 for crate in $(sed -n 's/^\([a-z_]*\):.*/\1/p' crates.txt); do
     grep -q "^| \`$crate\` |" README.md || fail "README.md has no line for the crate $crate"

@@ -258,4 +258,87 @@ done <<'LIST'
 227 live Take back: 7 in place of 19
 228 live Take back: refusal 19 has a detail
 229 live Take back: refusal 10 clears the byte
+230 page Page: 256 lines are taken
+231 page Page: 255 lines are refused
+232 page Page: the page rules come before the line rules
+233 page Page: 20 comes before the line rules
+234 page Page: 20 comes before the page rules
+235 page Page: 20 comes behind the lines
+236 page Page: refusal 20 has the lines as its detail
+237 page Page: refusal 20 names the line rules
+238 page Page: a line's refusal has its own detail
+239 page Page: lines are counted from 1
+240 page Page: a line's refusal names the page
+241 page Page: the line rules' refusal names the page rules
+242 page Page: the page rules' refusal names the line rules
+243 page Page: the page's refusal names a line
+244 page Page: 11 of the page has a line's number as its detail
+245 page Page: a result names a line
+246 page Page: alike lines count one by one
+247 page Page: a run counts twice
+248 page Page: lines of one class are alike
+249 page Page: lines with as many tokens are alike
+250 page Page: the order of the names does not count
+251 page Page: a line whose names begin as those of the one before is alike
+252 page Page: offsets and lengths count too
+253 page Page: the last names are not compared
+254 page Page: names are compared by 7 bits
+255 page Page: a line is compared with the one before the last
+256 page Page: a line is compared with the first of the page
+257 page Page: the class is the last token's name
+258 page Page: a line without a token is left out
+259 page Page: a line without a token has the class 255
+260 page Page: lines without a token are not alike
+261 page Page: a closing byte 10 opens a line
+262 page Page: an empty page has an empty line
+263 page Page: an empty page is refused
+264 page Page: a last line without its byte 10 is left out
+265 page Page: an empty line is left out
+266 page Page: a byte 13 before the byte 10 is left out
+267 page Page: a byte 0 ends a line
+268 page Page: the last of 255 lines is left out
+269 page Page: the last of 255 class bytes is left out
+270 page Page: the tokens of all lines go to the first buffer
+271 page Page: the tokens of all lines go to the second buffer
+272 page Page: the token buffers change places
+273 page Page: 11 is judged on the first buffer
+274 page Page: 11 is judged on the shorter buffer
+275 page Page: 11 is not looked for in the token buffers
+276 page Page: 10 in place of 11 of the tokens
+277 page Page: refusal 20 changes the reading buffer
+278 page Page: the line rules' refusal changes the work area
+279 page Page: the page rules' refusal changes a token buffer
+280 page Page: 7 of a line comes before 8 of an earlier one
+281 page Page: the last line that is refused is named
+282 page Page: 10 of line 0 goes by the longest line
+283 page Page: 10 of the page comes before the lines
+284 page Page: 10 of the page goes by the lines in place of the runs
+285 page Page: 8 of the page comes before 10
+286 page Page: an empty page is not read by the page rules
+287 page Page: a refusal of the page changes the buffer
+288 page Page: the later bytes of the buffer are cleared
+289 page Page: class bytes behind a 0 are left out
+290 page Page: the class bytes are read by the line rules
+291 page Page: the last record of the page rules is taken for the start record
+292 page Page: the last record of the line rules is taken for the start record
+293 page Page: the page's refusal names the page rules
+294 page Page: 9 of the page rules comes behind the lines
+295 page Page: 9 of the line rules comes behind the page rules
+296 valgrind Page: reads past the end of the page
+297 valgrind Page: reads past the end of the page rules' table
+298 stack Page: takes 8 KiB of stack for each line
+299 page Page: changes the page
+300 page Page: the result is the number of class bytes
+301 page Page: one byte behind the second token buffer is written
+302 page Page: one byte behind the reading buffer is written
+303 page Page: 255 lines, the last without its byte 10, are refused
+304 page Page: a line of 255 bytes is refused
+305 page Page: a line of 256 bytes is cut
+306 page Page: a line that is refused is left out
+307 page Page: a line that has no reading is taken for one without a token
+308 page Page: lines are counted in 8 bits
+309 page Page: the token buffer goes by the run in place of the line
+310 page Page: 10 of the page goes by the records of the line rules
+311 page Page: 11 of a line's reading is judged on the page's buffer too
+312 page Page: the readings of the lines go to the page's buffer
 LIST

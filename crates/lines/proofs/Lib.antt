@@ -1,4 +1,6 @@
 -- The laws of lines.
 pub mod Splitting
 pub mod Ends
+pub mod Nexts
+pub mod Joining
 pub mod Keeping

@@ -1,11 +1,12 @@
 -- The lines of an input (document 01, "The program and the host"): "lines ended by byte 10 .. a last line may lack it". A closing byte 10
 -- opens no further line, one byte 10 alone is one empty line, and an empty input has no line.
 -- Assumes nothing.
-use Prim.Native.Nat.{ℕ}
+use Prim.Native.Nat.{ℕ, _<_}
+use mathlib.Core.Path.{_≡_}
 use mathlib.Core.Bool.{Bool, true, false}
 use mathlib.Core.List.{List, [], _∷_, _++_}
 use lib.Dec.{eqb}
-use lib.ListN.{take}
+use lib.ListN.{length, getD, take}
 
 -- the first where the test is true, otherwise the second
 abbrev pub pickLines : Bool → List (List ℕ) → List (List ℕ) → List (List ℕ)
@@ -45,3 +46,17 @@ lastLine (c ∷ u) = (c ∷ u) ∷ []
 -- the bytes of a line that are kept: enough to see that it is over 255 bytes long
 abbrev pub keptOf : List ℕ → List ℕ
 keptOf s = take 256 s
+
+-- lines joined by byte 10: between each two of them one
+abbrev pub joinLines : List (List ℕ) → List ℕ
+joinLines [] = []
+joinLines (s ∷ []) = s
+joinLines (s ∷ (u ∷ ss)) = s ++ (10 ∷ joinLines (u ∷ ss))
+
+-- no byte of s is 10, and so for each of some lines
+abbrev pub NoEnd : List ℕ → Type 0
+NoEnd s = (i : ℕ) → i < length s → getD s i 0 ≡ 10 → ⊥
+
+abbrev pub Plain : List (List ℕ) → Type 0
+Plain [] = Unit {0}
+Plain (s ∷ ss) = NoEnd s × Plain ss

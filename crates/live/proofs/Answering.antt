@@ -14,7 +14,7 @@ use Rattle.table.specs.declared.Refusal.{Refusal}
 use Rattle.table.specs.declared.Answer.{Answer}
 use Rattle.table.specs.declared.Answer.the-variants.{Refused}
 use Rattle.table.specs.Records.{count}
-use Rattle.table.specs.Answers.{Said, gives, refuses, refusal, says}
+use Rattle.table.specs.Answers.{Said, gives, refuses, refusal, says, isRefused}
 use Rattle.table.specs.Expression.{expOf}
 use Rattle.rows.specs.Layout.{areaSize}
 use Rattle.rows.proofs.Places.{areaSize-formula}
@@ -24,7 +24,7 @@ use Rattle.live.specs.declared.LiveLine.{LiveLine}
 use Rattle.live.specs.declared.Facts.{Facts}
 use Rattle.live.specs.declared.Heard.{Heard}
 use Rattle.live.specs.Lines.{tableOf, bytesOf, lengthened, shortened}
-use Rattle.live.specs.Calls.{factsNumber, heardSays, ifHeld, lineSays, addSays, takeBackSays, afterCall, isRefused}
+use Rattle.live.specs.Calls.{factsNumber, heardSays, ifHeld, lineSays, addSays, takeBackSays, afterCall}
 use Rattle.live.specs.Steps.{Held, Answered}
 use Rattle.live.proofs.Saying.{Ruled, ruled-on, not-judged}
 

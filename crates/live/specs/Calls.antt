@@ -2,7 +2,7 @@
 -- hand; then 7 for Add at 255 bytes; 19 for Take back on an empty line; last 10."
 -- Assumes nothing.
 use Prim.Native.Nat.{ℕ, _+_}
-use mathlib.Core.Bool.{Bool, true, false, cond}
+use mathlib.Core.Bool.{Bool, cond}
 use mathlib.Core.List.{List, []}
 use lib.Dec.{leb, ltb, eqb}
 use lib.ListN.{length, take}
@@ -74,8 +74,3 @@ addLeaves h c work = afterCall (addSays h c work) (lengthened h c) h
 
 unfoldable pub takeBackLeaves : LiveLine → ℕ → LiveLine
 takeBackLeaves h work = afterCall (takeBackSays h work) (shortened h) h
-
--- "A refused call changes neither line nor model nor work area; after any other the work area's content is free."
-abbrev pub isRefused : Said → Bool
-isRefused (gives n) = false
-isRefused (refuses n d) = true

@@ -9,3 +9,4 @@ pub mod Iterating
 pub mod Answering
 pub mod Rivals
 pub mod Outcomes
+pub mod Written

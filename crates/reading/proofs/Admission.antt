@@ -8,7 +8,7 @@ use native.Mathlib.Omega.{arith}
 use borrow.Author.Tests.{lt-ltb, le-ltb, ltb-true, not-false}
 use lib.Dec.{ltb}
 use Rattle.table.specs.declared.Refusal.{Refusal}
-use Rattle.table.specs.declared.Refusal.the-variants.{Size, Kind, Unused, Bounds, Child, Named, Line, NoReading, Start, Work, Buffer, Unfit, Differ, Text, Records, Pairs, TokenBytes, EmptyLine}
+use Rattle.table.specs.declared.Refusal.the-variants.{Size, Kind, Unused, Bounds, Child, Named, Line, NoReading, Start, Work, Buffer, Unfit, Differ, Text, Records, Pairs, TokenBytes, EmptyLine, Lines}
 use Rattle.table.specs.declared.Answer.{Answer}
 use Rattle.table.specs.declared.Answer.the-variants.{Done, Refused}
 use Rattle.table.specs.Records.{count}
@@ -78,6 +78,7 @@ refusal-numbers Records = (16, 0, refl)
 refusal-numbers Pairs = (17, 0, refl)
 refusal-numbers TokenBytes = (18, 0, refl)
 refusal-numbers EmptyLine = (19, 0, refl)
+refusal-numbers Lines = (20, 0, refl)
 
 -- the same of the answer that `admit` hands over
 pub admitted : (t : List ℕ) (k : ℕ) (r : Answer) (m : ℕ) → says r ≡ ifStart t k (gives (count t)) → r ≡ Done m → Admitted t k

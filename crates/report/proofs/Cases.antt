@@ -5,6 +5,7 @@ use mathlib.Core.Path.{_≡_, refl}
 use mathlib.Core.List.{List, [], _∷_, _++_}
 use Rattle.table.specs.Expression.{below, expOf}
 use Rattle.matcher.specs.Calls.{readSays}
+use Rattle.lexer.specs.Lexing.{lexSays}
 use Rattle.printing.specs.Decimal.{decimal}
 use Rattle.report.specs.Report.{lineReport, tableReport}
 
@@ -36,12 +37,12 @@ example-text =
     ∷ 0x6c ∷ 0x69 ∷ 0x6e ∷ 0x65 ∷ 0x20 ∷ 0x33 ∷ 0x20 ∷ 0x72 ∷ 0x65 ∷ 0x66 ∷ 0x75 ∷ 0x73 ∷ 0x65 ∷ 0x64 ∷ 0x20 ∷ 0x38 ∷ 0x0a ∷ []
 
 pub example-holds : example-reports ≡ example-text
-unfolding lineReport decimal readSays expOf below
+unfolding lineReport decimal lexSays readSays expOf below
 example-holds = refl
 
 -- T4, whose one record is Empty with tag 7, and the empty line: "line 1 ok 0" with its line end
 pub empty-part-reported : lineReport (1 ∷ 0 ∷ 0 ∷ 7 ∷ []) 0 1 [] ≡ 0x6c ∷ 0x69 ∷ 0x6e ∷ 0x65 ∷ 0x20 ∷ 0x31 ∷ 0x20 ∷ 0x6f ∷ 0x6b ∷ 0x20 ∷ 0x30 ∷ 0x0a ∷ []
-unfolding lineReport decimal readSays expOf below
+unfolding lineReport decimal lexSays readSays expOf below
 empty-part-reported = refl
 
 -- "table refused 1" with its line end

@@ -1,7 +1,7 @@
 -- A line over 255 bytes is refused, whatever its bytes.
 -- Assumes nothing.
 use Prim.Native.Nat.{ℕ, _<_}
-use mathlib.Core.Path.{_≡_, refl, sym, _∙_, ap}
+use mathlib.Core.Path.{_≡_, refl}
 use mathlib.Core.Bool.{Bool, true, false, not}
 use mathlib.Core.List.{List}
 use borrow.Author.Tests.{lt-ltb}
@@ -10,27 +10,21 @@ use lib.ListN.{length}
 use Rattle.table.specs.Records.{count}
 use Rattle.table.specs.Answers.{Said, gives, refuses}
 use Rattle.table.specs.Checked.{orElse, checked}
-use Rattle.reading.specs.Calls.{ifPassed, ifStart}
+use Rattle.reading.specs.Calls.{ifPassed}
 use Rattle.matcher.specs.Calls.{readSays}
-use Rattle.report.specs.Report.{workLength, readingLength, reported, lineReport}
+use Rattle.lexer.specs.Lexing.{lexSays}
+use Rattle.report.specs.Report.{reported, lineReport}
 
--- what Read says of it
-long-says : (t : List ℕ) (k : ℕ) (s : List ℕ) (work room : ℕ) → 255 < length s → readSays t k s work room ≡ ifStart t k (refuses 7 0)
-unfolding readSays
-long-says t k s work room h = rw (lt-ltb 255 (length s) h)
-
--- and what is printed
+-- what is printed for a line that is refused by 7, if by no number before
 long-reported :
-    (t : List ℕ) (k n : ℕ) (s u : List ℕ) (c : Said) (b : Bool)
-    → reported t k n s (ifPassed c (orElse b (refuses 9 0) (refuses 7 0)))
-    ≡ reported t k n u (ifPassed c (orElse b (refuses 9 0) (refuses 7 0)))
-long-reported t k n s u (gives m) true = refl
-long-reported t k n s u (gives m) false = refl
-long-reported t k n s u (refuses r d) b = refl
+    (t : List ℕ) (k n : ℕ) (s u : List ℕ) (x y c : Said) (b : Bool)
+    → reported t k n s (ifPassed (ifPassed c (orElse b (refuses 9 0) (refuses 7 0))) x)
+    ≡ reported t k n u (ifPassed (ifPassed c (orElse b (refuses 9 0) (refuses 7 0))) y)
+long-reported t k n s u x y (gives m) true = refl
+long-reported t k n s u x y (gives m) false = refl
+long-reported t k n s u x y (refuses r d) b = refl
 
 pub long-report : (t : List ℕ) (k n : ℕ) (s u : List ℕ) → 255 < length s → 255 < length u → lineReport t k n s ≡ lineReport t k n u
-unfolding lineReport
+unfolding lineReport lexSays readSays
 long-report t k n s u h g =
-    ap (reported t k n s) (long-says t k s workLength readingLength h)
-    ∙ long-reported t k n s u (checked t) (not (ltb k (count t)))
-    ∙ ap (reported t k n u) (sym (long-says t k u workLength readingLength g))
+    rw (lt-ltb 255 (length s) h, lt-ltb 255 (length u) g) (long-reported t k n s u _ _ (checked t) (not (ltb k (count t))))

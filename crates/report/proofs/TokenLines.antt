@@ -24,9 +24,9 @@ token a b c = record { tag = a; offset = b; size = c }
 abbrev pub tokenAt : List ℕ → ℕ → Token
 tokenAt s i = token (getD s (3 * i) 0) (getD s (3 * i + 1) 0) (getD s (3 * i + 2) 0)
 
-abbrev pub tokensOf : ℕ → List ℕ → List Token
-tokensOf zero s = []
-tokensOf (suc n) s = tokenAt s 0 ∷ tokensOf n (drop 3 s)
+abbrev pub firstTokens : ℕ → List ℕ → List Token
+firstTokens zero s = []
+firstTokens (suc n) s = tokenAt s 0 ∷ firstTokens n (drop 3 s)
 
 at-next : (s : List ℕ) (i j : ℕ) → j ≡ 3 + i → getD (drop 3 s) i 0 ≡ getD s j 0
 at-next s i j e = getD-drop 3 s i 0 ∙ ap (λ (k : ℕ). getD s k 0) (sym e)
@@ -38,22 +38,22 @@ token-next s n =
     let z : getD (drop 3 s) (3 * n + 2) 0 ≡ getD s (3 * suc n + 2) 0 = at-next s (3 * n + 2) (3 * suc n + 2) (omega arith) in
     cc
 
-tokens-snoc : (n : ℕ) (s : List ℕ) → tokensOf (suc n) s ≡ tokensOf n s ++ (tokenAt s n ∷ [])
+tokens-snoc : (n : ℕ) (s : List ℕ) → firstTokens (suc n) s ≡ firstTokens n s ++ (tokenAt s n ∷ [])
 tokens-snoc zero s = refl
 tokens-snoc (suc n) s =
     ap (λ (xs : List Token). tokenAt s 0 ∷ xs)
-    (tokens-snoc n (drop 3 s) ∙ ap (λ (x : Token). tokensOf n (drop 3 s) ++ (x ∷ [])) (token-next s n))
+    (tokens-snoc n (drop 3 s) ∙ ap (λ (x : Token). firstTokens n (drop 3 s) ++ (x ∷ [])) (token-next s n))
 
-tokens-front : (xs : List Token) (rest : List ℕ) → tokensOf (length xs) (tokenBytes xs ++ rest) ≡ xs
+tokens-front : (xs : List Token) (rest : List ℕ) → firstTokens (length xs) (tokenBytes xs ++ rest) ≡ xs
 tokens-front [] rest = refl
 tokens-front (x ∷ xs) rest = ap (λ (ys : List Token). x ∷ ys) (tokens-front xs rest)
 
 -- the records are those of xs
-pub tokens-are : (n : ℕ) (s : List ℕ) (xs : List Token) → 3 * n ≤ length s → take (3 * n) s ≡ tokenBytes xs → tokensOf n s ≡ xs
+pub tokens-are : (n : ℕ) (s : List ℕ) (xs : List Token) → 3 * n ≤ length s → take (3 * n) s ≡ tokenBytes xs → firstTokens n s ≡ xs
 tokens-are n s xs h e =
     let l : n ≡ length xs = omega (arith, bytes-count xs, ap length e, length-take-le (3 * n) s h) in
     let whole : s ≡ tokenBytes xs ++ drop (3 * n) s = sym (take-append-drop (3 * n) s) ∙ ap (λ (u : List ℕ). u ++ drop (3 * n) s) e in
-    ap (λ (k : ℕ). tokensOf k s) l ∙ ap (tokensOf (length xs)) whole ∙ tokens-front xs (drop (3 * n) s)
+    ap (λ (k : ℕ). firstTokens k s) l ∙ ap (firstTokens (length xs)) whole ∙ tokens-front xs (drop (3 * n) s)
 
 lines-snoc : (xs : List Token) (x : Token) → tokenLines (xs ++ (x ∷ [])) ≡ tokenLines xs ++ tokenLine x
 lines-snoc [] x = append-nil (tokenLine x)
@@ -61,17 +61,17 @@ lines-snoc (y ∷ xs) x = ap (λ (s : List ℕ). tokenLine y ++ s) (lines-snoc x
 
 -- the lines of one token more
 pub lines-more :
-    (s a b c : List ℕ) (at i next end : ℕ) → Wrote a b at next (tokenLines (tokensOf i s)) → Wrote b c next end (tokenLine (tokenAt s i))
-    → Wrote a c at end (tokenLines (tokensOf (i + 1) s))
+    (s a b c : List ℕ) (at i next end : ℕ) → Wrote a b at next (tokenLines (firstTokens i s)) → Wrote b c next end (tokenLine (tokenAt s i))
+    → Wrote a c at end (tokenLines (firstTokens (i + 1) s))
 lines-more s a b c at i next end w v =
     wrote-as (wrote-then w v)
-    (sym (ap (λ (n : ℕ). tokenLines (tokensOf n s)) (add-one i) ∙ ap tokenLines (tokens-snoc i s) ∙ lines-snoc (tokensOf i s) (tokenAt s i)))
+    (sym (ap (λ (n : ℕ). tokenLines (firstTokens n s)) (add-one i) ∙ ap tokenLines (tokens-snoc i s) ∙ lines-snoc (firstTokens i s) (tokenAt s i)))
 
 -- the lines are those of xs
 pub lines-all :
-    (s a b : List ℕ) (at n i next : ℕ) → Wrote a b at next (tokenLines (tokensOf i s)) → i ≡ n → 3 * n ≤ length s
+    (s a b : List ℕ) (at n i next : ℕ) → Wrote a b at next (tokenLines (firstTokens i s)) → i ≡ n → 3 * n ≤ length s
     → (xs : List Token) → take (3 * n) s ≡ tokenBytes xs → Wrote a b at next (tokenLines xs)
-lines-all s a b at n i next w f h xs e = wrote-as w (ap (λ (k : ℕ). tokenLines (tokensOf k s)) f ∙ ap tokenLines (tokens-are n s xs h e))
+lines-all s a b at n i next w f h xs e = wrote-as w (ap (λ (k : ℕ). tokenLines (firstTokens k s)) f ∙ ap tokenLines (tokens-are n s xs h e))
 
 -- a token of bytes has a line of at most 12 bytes
 pub length-line : (a b c : ℕ) → a < 256 → b < 256 → c < 256 → length (tokenLine (token a b c)) ≤ 12

@@ -5,12 +5,10 @@
 use Prim.Native.Nat.{ℕ}
 use mathlib.Core.List.{List, [], _∷_, _++_}
 use lib.ListN.{length}
-use Rattle.regex.specs.Decision.{Parsed, found, missing, parse}
 use Rattle.table.specs.Answers.{Said, gives, refuses}
 use Rattle.table.specs.Checked.{checked}
-use Rattle.table.specs.Expression.{expOf}
-use Rattle.tokens.specs.Tokens.{Token, tokensFrom}
-use Rattle.matcher.specs.Calls.{readSays}
+use Rattle.tokens.specs.Tokens.{Token}
+use Rattle.lexer.specs.Lexing.{tokensOf, lexSays}
 use Rattle.printing.specs.Decimal.{decimal}
 use Rattle.report.specs.Text.{lineWord, okWord, refusedWord, tableWord, failureWord}
 
@@ -40,19 +38,14 @@ refusedLine number r = lineWord ++ (decimal number ++ (refusedWord ++ (decimal r
 abbrev pub okLine : ℕ → List Token → List ℕ
 okLine number xs = lineWord ++ (decimal number ++ (okWord ++ (decimal (length xs) ++ (10 ∷ tokenLines xs))))
 
--- the tokens of the line's reading
-abbrev pub lineTokens : List ℕ → ℕ → Parsed → List Token
-lineTokens t k (found v) = tokensFrom t k v 0
-lineTokens t k missing = []
-
--- by what Read says. Tokens gives the tokens of every line that Read reads: the buffer holds 765 bytes (proofs/Reports.tokens-given)
+-- by what is said of its tokens. No line is refused by 11 (proofs/Room.never-buffer)
 abbrev pub reported : List ℕ → ℕ → ℕ → List ℕ → Said → List ℕ
-reported t k number s (gives n) = okLine number (lineTokens t k (parse (expOf t k) s))
+reported t k number s (gives n) = okLine number (tokensOf t k s)
 reported t k number s (refuses r d) = refusedLine number r
 
 -- what is printed for line s with its number, by table t from record k
 unfoldable pub lineReport : List ℕ → ℕ → ℕ → List ℕ → List ℕ
-lineReport t k number s = reported t k number s (readSays t k s workLength readingLength)
+lineReport t k number s = reported t k number s (lexSays t k s workLength readingLength tokenLength)
 
 -- what is printed for a table: nothing where it passes
 abbrev pub tableSaid : Said → List ℕ

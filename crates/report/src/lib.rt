@@ -1,6 +1,6 @@
 // What the program prints for a table and for a line.
 
-ghost use Prim.Native.Nat.{ℕ, _+_, _*_, _≤_, _<_};
+ghost use Prim.Native.Nat.{ℕ, _+_, _*_, _≤_};
 ghost use mathlib.Core.Path.{_≡_};
 ghost use mathlib.Core.List.{List, [], _∷_, _++_};
 ghost use lib.ListN.{length, take, drop};
@@ -10,11 +10,10 @@ ghost use Rattle.printing.specs.Decimal.{decimal};
 ghost use Rattle.printing.specs.Writes.{Wrote};
 ghost use Rattle.report.specs.Text.{okWord, refusedWord, tableWord};
 ghost use Rattle.report.specs.Report.{tokenLine, tokenLines, refusedLine, workLength, readingLength, tokenLength, lineReport, tableReport, failureText};
-ghost use Rattle.report.specs.Writes.{lineWith, LineReading, readingReport};
+ghost use Rattle.report.specs.Writes.{lineWith};
 use printing::put_byte;
 use printing::put_decimal;
 use printing::put_text;
-use reading::Place;
 use table::Answer;
 use table::Refusal;
 
@@ -105,31 +104,6 @@ fn refusal_number(why: Refusal) -> u64
     numbers.number as u64
 }
 
-// Writes what is printed for a line whose reading is given, and returns its length. Tokens does not refuse it.
-fn report_reading(
-    table: &[u8],
-    start: usize,
-    number: u64,
-    reading: &[u8],
-    list: &mut [u8],
-    out: &mut [u8],
-) -> usize
-    requires reading { ⌜ LineReading (now table) start (now reading) ⌝ }
-    requires list { ⌜ length (now list) ≡ tokenLength ⌝ }
-    requires out { ⌜ 32768 ≤ length (now out) ⌝ }
-    ensures bound { λ r. ⌜ r ≤ 32768 ⌝ }
-    ensures lines { λ r.
-        ⌜ Wrote (now (out .entry)) (now (out .exit)) 0 r (readingReport (now (table .entry)) start number (now (reading .entry))) ⌝ }
-{
-    match tokens::tokens(table, start, reading, list) {
-        Answer::Done(count) => {
-            let at = put_ok(out, number, count as u64);
-            put_tokens(out, at, list, count)
-        }
-        Answer::Refused(_) => 0,
-    }
-}
-
 // Writes what is printed for a line to the front of the buffer and returns its length.
 pub fn report_line(
     table: &[u8],
@@ -152,10 +126,10 @@ pub fn report_line(
         ≡ lineReport (now (table .entry)) start number (now (line .entry))
         ++ drop (length (lineReport (now (table .entry)) start number (now (line .entry)))) (now (out .entry)) ⌝ }
 {
-    match matcher::read(table, start, line, work, reading) {
-        Answer::Done(records) => {
-            let end = Place::RECORD * records;
-            report_reading(table, start, number, &reading[..end], tokens, out)
+    match lexer::lex(table, start, line, work, reading, tokens) {
+        Answer::Done(count) => {
+            let at = put_ok(out, number, count as u64);
+            put_tokens(out, at, tokens, count)
         }
         Answer::Refused(why) => put_refused(out, number, refusal_number(why)),
     }

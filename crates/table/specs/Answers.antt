@@ -2,8 +2,9 @@
 -- caller is given ("The program and the host"). Contracts state answers through `says`.
 -- Assumes nothing.
 use Prim.Native.Nat.{ℕ, _+_, _*_}
+use mathlib.Core.Bool.{Bool, true, false}
 use Rattle.table.specs.declared.Refusal.{Refusal}
-use Rattle.table.specs.declared.Refusal.the-variants.{Size, Kind, Unused, Bounds, Child, Named, Line, NoReading, Start, Work, Buffer, Unfit, Differ, Text, Records, Pairs, TokenBytes, EmptyLine}
+use Rattle.table.specs.declared.Refusal.the-variants.{Size, Kind, Unused, Bounds, Child, Named, Line, NoReading, Start, Work, Buffer, Unfit, Differ, Text, Records, Pairs, TokenBytes, EmptyLine, Lines}
 use Rattle.table.specs.declared.Answer.{Answer}
 use Rattle.table.specs.declared.Answer.the-variants.{Done, Refused}
 
@@ -11,6 +12,11 @@ use Rattle.table.specs.declared.Answer.the-variants.{Done, Refused}
 pub data Said : Type 0 where
   gives : ℕ → Said
   refuses : ℕ → ℕ → Said
+
+-- an answer that is a refusal
+abbrev pub isRefused : Said → Bool
+isRefused (gives n) = false
+isRefused (refuses n d) = true
 
 -- the number and the detail of each refusal; no call gives 13 (document 02, request 6)
 abbrev pub refusal : Refusal → Said
@@ -32,6 +38,7 @@ refusal Records = refuses 16 0
 refusal Pairs = refuses 17 0
 refusal TokenBytes = refuses 18 0
 refusal EmptyLine = refuses 19 0
+refusal Lines = refuses 20 0
 
 -- the answer in the paper's numbers
 abbrev pub says : Answer → Said

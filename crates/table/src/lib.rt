@@ -13,7 +13,7 @@ ghost use Rattle.table.specs.Checked.{checked};
 ghost use Rattle.table.specs.Letters.{byteSet};
 ghost use Rattle.table.specs.Steps.{orSaid, ownFaultOr, isSet, Marks};
 
-// Why a call is refused: one case for each of the paper's numbers 1 to 19 but 13, which no call gives, in their order. A case holds the
+// Why a call is refused: one case for each of the paper's numbers 1 to 20 but 13, which no call gives, in their order. A case holds the
 // refusal's detail where it has one.
 pub enum Refusal {
     Size,
@@ -34,6 +34,7 @@ pub enum Refusal {
     Pairs,
     TokenBytes,
     EmptyLine,
+    Lines,
 }
 
 // What a call answers: its result, or the refusal.
@@ -123,6 +124,10 @@ pub fn numbers_of(why: Refusal) -> Numbers
         },
         Refusal::EmptyLine => Numbers {
             number: 19,
+            detail: 0,
+        },
+        Refusal::Lines => Numbers {
+            number: 20,
             detail: 0,
         },
     }

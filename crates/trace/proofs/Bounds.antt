@@ -1,15 +1,14 @@
 -- Every answer fits the 64-bit number that a C caller is given: results and details are below 2^32. And the buffers with which Tokens gives no 11.
 -- Assumes nothing.
-use Prim.Native.Nat.{ℕ, _*_, _≤_, _<_, _%_, max}
+use Prim.Native.Nat.{ℕ, _*_, _≤_, _<_, _%_}
 use mathlib.Core.Path.{_≡_, refl, sym, _∙_, subst}
 use mathlib.Core.Bool.{Bool, false, not, _||_}
 use mathlib.Core.List.{List}
 use native.Mathlib.Omega.{arith}
-use native.Mathlib.Nat.{mul-le-mul}
 use borrow.Author.Tests.{ltb-false}
 use lib.Dec.{ltb, eqb}
 use lib.ListN.{length}
-use Rattle.regex.specs.Values.{Val, flat, records, Reads}
+use Rattle.regex.specs.Values.{Val, flat, records}
 use Rattle.regex.specs.Decision.{Parsed, found, missing, parse}
 use Rattle.regex.specs.Ranking.{Verdict, same, first, second, rank}
 use Rattle.regex.specs.Relation.{Posix}
@@ -29,13 +28,13 @@ use Rattle.table.specs.Buffers.{ifRoom}
 use Rattle.reading.specs.Calls.{ifStart, ifFits, spellSays}
 use Rattle.reading.proofs.Lengths.{encode-length}
 use Rattle.reading.proofs.Fitting.{found-fits, fits-found}
-use Rattle.reading.proofs.Sizes.{records-reads}
 use Rattle.reading.proofs.Saying.{said-or, said-start, table-number, NotBuffer, not-buffer, start-not-buffer, room-not-buffer}
 use Rattle.tokens.specs.Tokens.{tokensFrom, tokenBytes}
 use Rattle.tokens.specs.Listed.{tokensSays}
 use Rattle.tokens.proofs.Counts.{bytes-count, tokens-count}
 use Rattle.ranking.specs.Answers.{verdictNumber, sameLine, compareParsed, compareSays}
 use Rattle.matcher.specs.Calls.{workSize, readParsed, readSays}
+use Rattle.matcher.proofs.Written.{few-records}
 use Rattle.notation.specs.Calls.{compileSays}
 use Rattle.notation.proofs.Calls.{compile-said}
 
@@ -138,14 +137,6 @@ room-for-line t k bs room f h =
 
 pub room-for-all : (t : List ℕ) (k : ℕ) (bs : List ℕ) (room : ℕ) → 765 ≤ room → NotBuffer (tokensSays t k bs room)
 room-for-all t k bs room h = roomy t k bs room (λ v e. omega (arith, short-found t k bs v e))
-
--- a reading that spells at most 255 bytes has at most 255 * 255 records
-few-records : (t : List ℕ) (k : ℕ) (v : Val) → Passes t → k < count t → Reads (expOf t k) v → length (flat v) ≤ 255 → records v ≤ 65025
-few-records t k v p l r h =
-    let m : count t ≤ 255 = count-bound t p .1 in
-    let x : max (length (flat v)) 1 ≤ 255 = omega arith in
-    let y : count t * max (length (flat v)) 1 ≤ 255 * 255 = mul-le-mul m x in
-    omega (arith, records-reads t p k l r)
 
 -- Read's
 pub small-read : (t : List ℕ) (k : ℕ) (s : List ℕ) (work room : ℕ) → Small (readSays t k s work room)

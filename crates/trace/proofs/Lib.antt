@@ -6,4 +6,5 @@ pub mod Answers
 pub mod UpTo
 pub mod Ordering
 pub mod Living
+pub mod Paging
 pub mod Promises

@@ -1,14 +1,14 @@
 -- The page of promises: the three demands, and what document 02's requests add, over the definitions that the calls' contracts cite, each
 -- proved by one citation. The contracts of table::check, matcher::read, reading::spell, tokens::tokens, ranking::compare, ranking::earlier,
--- notation::compile, order::order, live::LiveLine::new, add and take_back say that the calls answer and leave what these definitions say, for every input: none of them has a
--- `requires`, and each is proved to end.
+-- notation::compile, order::order, live::LiveLine::new, add and take_back, and page::read_page say that the calls answer and leave what these definitions say, for every input: none of
+-- them has a `requires`, and each is proved to end.
 -- The clause rivals of matcher::read and the clause precedence of ranking::compare say demand 3 of the answer and the buffer themselves, and
 -- those of the calls for C of the number.
 -- Assumes nothing.
 use Prim.Native.Nat.{ℕ, _+_, _*_, _%_, _≤_, _<_, max}
 use mathlib.Core.Path.{_≡_}
 use mathlib.Core.Bool.{true}
-use mathlib.Core.List.{List, [], _∷_, _++_, map}
+use mathlib.Core.List.{List, [], _∷_, _++_, map, flatMap}
 use mathlib.Core.Logic.{_⊎_, _↔_}
 use lib.ListN.{length, getD, take, drop}
 use Rattle.regex.specs.Expressions.{Exp}
@@ -46,6 +46,7 @@ use Rattle.ranking.proofs.Misfits.{misfits-first, misfits-second}
 use Rattle.matcher.specs.Calls.{workSize, readSays, readLeaves, PosixWritten}
 use Rattle.matcher.specs.Demands.{Setting, NoneOutranks}
 use Rattle.matcher.proofs.Rivals.{read-outranks}
+use Rattle.matcher.proofs.Written.{read-writes, read-refused}
 use Rattle.live.specs.declared.LiveLine.{LiveLine}
 use Rattle.live.specs.Lines.{holding}
 use Rattle.live.specs.Calls.{newSays, newLeaves, addSays, takeBackSays}
@@ -53,6 +54,18 @@ use Rattle.live.specs.Runs.{Call, callSays, callLeaves, RunsAsModel}
 use Rattle.live.proofs.Holding.{fresh-accepted, fresh-refused}
 use Rattle.live.proofs.OneCall.{refused-keeps}
 use Rattle.live.proofs.Runs.{runs-as-model}
+use Rattle.lines.specs.Lines.{linesOf, joinLines, Plain}
+use Rattle.lines.proofs.Joining.{lines-joined, lines-plain, lines-back}
+use Rattle.lexer.specs.Lexing.{lexSays, lexLeaves}
+use Rattle.lexer.proofs.Lexing.{lex-by-tokens, lex-refused}
+use Rattle.page.specs.Entries.{Rules, Entry, alike, likeness}
+use Rattle.page.specs.Runs.{Run, members, runs, runsByFirst, AlikeInside, LikeFirst, Apart}
+use Rattle.page.specs.Outcomes.{Who, the-page, line-rules, page-rules, one-line, PageSaid, names, pageNumber}
+use Rattle.page.specs.Pages.{Sizes, ifTaken, lineSays, classesOf, rulesSay, pageSays, pageLeaves, AllTaken, PageTaken}
+use Rattle.page.proofs.Likeness.{alike-exactly}
+use Rattle.page.proofs.Runs.{same-runs, runs-whole}
+use Rattle.page.proofs.Division.{runs-alike, runs-like-first, runs-apart, runs-only}
+use Rattle.page.proofs.Meaning.{page-refused, page-gives, page-said, page-left, page-reads, page-outranks, page-line-rules, page-page-rules, page-many, page-first-refused, page-empty}
 use Rattle.notation.specs.Trees.{Tree}
 use Rattle.notation.specs.Grammar.{Whole}
 use Rattle.notation.specs.Tables.{size, tableOf}
@@ -66,14 +79,15 @@ use Rattle.order.specs.declared.Verdict.the-variants.{Kept, Broken}
 use Rattle.order.specs.Breaks.{tokenCount, nameAt, Breaks, Among, Keeps, FirstToBreak}
 use Rattle.order.specs.Verdicts.{ordered, orderSays}
 use Rattle.order.proofs.Meaning.{kept-exactly, kept-count, broken-exactly, same-pairs, same-names, name-twice, order-refuses, said-many, said-uneven, said-kept, said-broken}
-use Rattle.trace.specs.Numbers.{Small}
+use Rattle.trace.specs.Numbers.{Small, SmallPage}
 use Rattle.trace.specs.SameCalls.{SameCalls}
-use Rattle.trace.proofs.Answers.{read-writes, read-refused, spell-refused, tokens-refused}
+use Rattle.trace.proofs.Answers.{spell-refused, tokens-refused}
 use Rattle.trace.proofs.Bounds.{small-checked, small-read, small-spell, small-compare, small-tokens, small-compile, room-for-line, room-for-all}
 use Rattle.trace.proofs.Numbers.{same-number}
 use Rattle.trace.proofs.UpTo.{up-to-same, up-to-less}
 use Rattle.trace.proofs.Ordering.{small-order, bytes-tokens, bytes-names}
 use Rattle.trace.proofs.Living.{new-small, add-small, take-back-small}
+use Rattle.trace.proofs.Paging.{small-page, same-page-number}
 
 -- Demand 1: each call gives a result or one of document 01's refusals, but never 13 (request 6), for every table, start number, line, reading and length
 pub check-answers : (t : List ℕ) → Small (checked t)
@@ -106,9 +120,15 @@ live-add-answers = add-small
 pub live-take-back-answers : (h : LiveLine) (work : ℕ) → Small (takeBackSays h work)
 live-take-back-answers = take-back-small
 
+pub page-answers : (l p : Rules) (page : List ℕ) (z : Sizes) (room : ℕ) → SmallPage (pageSays l p page z room)
+page-answers = small-page
+
 -- Demand 1: and no two of these answers have one number for C
 pub number-unique : (x y : Said) → Small x → Small y → number x ≡ number y → x ≡ y
 number-unique = same-number
+
+pub page-number-unique : (x y : PageSaid) → SmallPage x → SmallPage y → pageNumber x ≡ pageNumber y → x ≡ y
+page-number-unique = same-page-number
 
 -- Demand 1: a refusal changes no output buffer
 pub read-keeps : (t : List ℕ) (k : ℕ) (s : List ℕ) (work : ℕ) (out : List ℕ) (n d : ℕ) → readSays t k s work (length out) ≡ refuses n d → readLeaves t k s work out ≡ out
@@ -122,6 +142,11 @@ tokens-keeps = tokens-refused
 
 pub compile-keeps : (s out : List ℕ) (n d : ℕ) → compileSays s (length out) ≡ refuses n d → compileLeaves s out ≡ out
 compile-keeps = compile-refused
+
+pub page-keeps :
+    (l p : Rules) (page : List ℕ) (z : Sizes) (out : List ℕ) (who : Who) (n d : ℕ) → pageSays l p page z (length out) ≡ names who (refuses n d)
+    → pageLeaves l p page z out ≡ out
+page-keeps = page-refused
 
 -- Demand 2: Read writes the reading that the relation gives the line, and nothing else
 pub read-right : (t : List ℕ) (k : ℕ) (s : List ℕ) (work : ℕ) (out : List ℕ) (n : ℕ) → readSays t k s work (length out) ≡ gives n → PosixWritten t k s out (readLeaves t k s work out) n
@@ -364,6 +389,120 @@ live-runs = runs-as-model
 -- Request 7: "A refused call changes neither line nor model", of a live line that is filled by hand, too
 pub live-keeps : (h : LiveLine) (call : Call) (n d : ℕ) → callSays h call ≡ refuses n d → callLeaves h call ≡ h
 live-keeps = refused-keeps
+
+-- Request 8: "each ended by byte 10 (the last may lack it)": the lines of a page, joined again by byte 10, are the page, with or without its last byte
+-- 10; no line has a byte 10; and lines without one, each with a byte 10 behind it, are the lines of what they make
+pub page-lines-joined : (page : List ℕ) → (page ≡ joinLines (linesOf page)) ⊎ (page ≡ joinLines (linesOf page) ++ (10 ∷ []))
+page-lines-joined = lines-joined
+
+pub page-lines-plain : (page : List ℕ) → Plain (linesOf page)
+page-lines-plain = lines-plain
+
+pub page-lines-back : (u : List ℕ) (ss : List (List ℕ)) → Plain (u ∷ ss) → linesOf (joinLines (u ∷ ss) ++ (10 ∷ [])) ≡ u ∷ ss
+page-lines-back = lines-back
+
+-- Request 8: "each by Read's refusals and Tokens' 11": what is said of a line, and left in its token buffer, is what Tokens says and leaves of the
+-- reading that Read wrote
+pub line-by-tokens :
+    (t : List ℕ) (k : ℕ) (s : List ℕ) (work : ℕ) (reading list : List ℕ) (n : ℕ) → readSays t k s work (length reading) ≡ gives n
+    → (lexSays t k s work (length reading) (length list) ≡ tokensSays t k (take (recordSize * n) (readLeaves t k s work reading)) (length list))
+    × (lexLeaves t k s work (length reading) list ≡ tokensLeaves t k (take (recordSize * n) (readLeaves t k s work reading)) list)
+line-by-tokens = lex-by-tokens
+
+pub line-by-read :
+    (t : List ℕ) (k : ℕ) (s : List ℕ) (work room space n d : ℕ) → readSays t k s work room ≡ refuses n d → lexSays t k s work room space ≡ refuses n d
+line-by-read = lex-refused
+
+-- Request 8: "Neighbouring lines are alike if their token names are the same in order"
+pub page-alike : (a b : Entry) → (alike a b ≡ true) ↔ (likeness a ≡ likeness b)
+page-alike = alike-exactly
+
+-- Request 8: "a run of alike lines counts as its first line": the runs are the page's lines, one after the other; each line of a run is alike to the
+-- one before it and so to the first, and the last of a run is not alike to the first of the next; there are no other runs like that
+pub page-runs-whole : (es : List Entry) → flatMap members (runs es) ≡ es
+page-runs-whole = runs-whole
+
+pub page-runs-alike : (es : List Entry) → AlikeInside (runs es)
+page-runs-alike = runs-alike
+
+pub page-runs-like-first : (es : List Entry) → LikeFirst (runs es)
+page-runs-like-first = runs-like-first
+
+pub page-runs-apart : (es : List Entry) → Apart (runs es)
+page-runs-apart = runs-apart
+
+pub page-runs-only : (es : List Entry) (rs : List Run) → AlikeInside rs → Apart rs → flatMap members rs ≡ es → rs ≡ runs es
+page-runs-only = runs-only
+
+-- Request 8: comparing with the line before finds the same runs as comparing with the run's first line
+pub page-same-runs : (es : List Entry) → runs es ≡ runsByFirst es
+page-same-runs = same-runs
+
+-- Request 8: "The page's reading is the relation's reading of the class bytes"
+pub page-right :
+    (l p : Rules) (page : List ℕ) (z : Sizes) (out : List ℕ) (n : ℕ) → pageSays l p page z (length out) ≡ names the-page (gives n)
+    → PosixWritten (p .table) (p .start) (classesOf l page) out (pageLeaves l p page z out) n
+page-right = page-reads
+
+-- Request 8: "written, counted and refused as by Read", where the rules, the number of lines and every line are taken; and only then there is a result
+pub page-as-read :
+    (l p : Rules) (page : List ℕ) (z : Sizes) → PageTaken l p page z
+    → (room : ℕ)
+    → pageSays l p page z room ≡ names the-page (readSays (p .table) (p .start) (classesOf l page) (z .work) room)
+page-as-read = page-said
+
+pub page-left-as-read :
+    (l p : Rules) (page : List ℕ) (z : Sizes) → PageTaken l p page z
+    → (out : List ℕ)
+    → pageLeaves l p page z out ≡ readLeaves (p .table) (p .start) (classesOf l page) (z .work) out
+page-left-as-read = page-left
+
+pub page-result :
+    (l p : Rules) (page : List ℕ) (z : Sizes) (room n : ℕ) → pageSays l p page z room ≡ names the-page (gives n)
+    → PageTaken l p page z × (readSays (p .table) (p .start) (classesOf l page) (z .work) room ≡ gives n)
+page-result = page-gives
+
+-- Request 8, demand 3: no rival of the page's reading ranks ahead of it, or exists where 8 is said
+pub page-rivals :
+    (l p : Rules) (page : List ℕ) (z : Sizes) → PageTaken l p page z → Bytes (l .table)
+    → workSize (count (p .table)) (length (classesOf l page)) ≤ z .work
+    → (out : List ℕ)
+    → NoneOutranks (λ x. pageSays l p page z (length out) ≡ names the-page x) (p .table) (p .start) (classesOf l page) out
+    (pageLeaves l p page z out)
+page-rivals = page-outranks
+
+-- Request 8: the refusals in their order: "1 to 6 and 9 for the line rules, then for the page rules; then 20 for over 255 lines; then the lines in order",
+-- the first that is refused with its number as detail
+pub page-by-line-rules :
+    (l p : Rules) (page : List ℕ) (z : Sizes) (room n d : ℕ) → rulesSay l ≡ refuses n d → pageSays l p page z room ≡ names line-rules (refuses n d)
+page-by-line-rules = page-line-rules
+
+pub page-by-page-rules :
+    (l p : Rules) (page : List ℕ) (z : Sizes) (room m n d : ℕ) → rulesSay l ≡ gives m → rulesSay p ≡ refuses n d
+    → pageSays l p page z room ≡ names page-rules (refuses n d)
+page-by-page-rules = page-page-rules
+
+pub page-by-count :
+    (l p : Rules) (page : List ℕ) (z : Sizes) (room m n : ℕ) → rulesSay l ≡ gives m → rulesSay p ≡ gives n → 255 < length (linesOf page)
+    → pageSays l p page z room ≡ names the-page (refuses 20 0)
+page-by-count = page-many
+
+pub page-by-line :
+    (l p : Rules) (page : List ℕ) (z : Sizes) (room m m′ : ℕ) → rulesSay l ≡ gives m → rulesSay p ≡ gives m′
+    → (us : List (List ℕ)) (s : List ℕ) (ss : List (List ℕ)) (n d : ℕ) → length (linesOf page) ≤ 255
+    → linesOf page ≡ us ++ (s ∷ ss)
+    → AllTaken l z 0 us
+    → lineSays l z (length us) s ≡ refuses n d
+    → pageSays l p page z room ≡ names one-line (refuses n (length us))
+page-by-line = page-first-refused
+
+-- Request 8: "An empty page reads as the empty line"
+pub page-of-none :
+    (l p : Rules) (z : Sizes) (room : ℕ)
+    → pageSays l p [] z room
+    ≡ ifTaken line-rules (rulesSay l)
+    (ifTaken page-rules (rulesSay p) (names the-page (readSays (p .table) (p .start) [] (z .work) room)))
+page-of-none = page-empty
 
 -- Beyond the demands: a table that passes may be lent up to its start record alone. It passes too, with the start record as its last, each call
 -- says and leaves the same by it, and Read needs no more work area

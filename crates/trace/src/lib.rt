@@ -1,7 +1,8 @@
 // The calls for C: numbers, byte slices, pairs of names and live lines in, one 64-bit number out.
 
+ghost use Prim.Native.Nat.{_≤_};
 ghost use mathlib.Core.Path.{_≡_};
-ghost use Rattle.table.specs.Answers.{says, number};
+ghost use Rattle.table.specs.Answers.{says, number, isRefused};
 ghost use Rattle.table.specs.Checked.{checked};
 ghost use mathlib.Core.Bool.{true};
 ghost use lib.ListN.{length};
@@ -9,16 +10,21 @@ ghost use Rattle.reading.specs.Calls.{spellSays, spellLeaves};
 ghost use Rattle.ranking.specs.Answers.{compareSays};
 ghost use Rattle.ranking.specs.OneLine.{OneLine, AnswersPrecedence};
 ghost use Rattle.tokens.specs.Listed.{tokensSays, tokensLeaves};
-ghost use Rattle.matcher.specs.Calls.{readSays, readLeaves, keepsWork};
+ghost use Rattle.matcher.specs.Calls.{workSize, readSays, readLeaves, keepsWork};
 ghost use Rattle.matcher.specs.Demands.{Setting, NoneOutranks};
 ghost use Rattle.notation.specs.Calls.{compileSays, compileLeaves};
-ghost use Rattle.live.specs.Calls.{heardSays, newSays, newLeaves, addSays, addLeaves, takeBackSays, takeBackLeaves, isRefused};
+ghost use Rattle.live.specs.Calls.{heardSays, newSays, newLeaves, addSays, addLeaves, takeBackSays, takeBackLeaves};
 ghost use Rattle.order.specs.Verdicts.{verdictSays, orderSays};
-ghost use Rattle.trace.specs.Numbers.{Small, Encodable};
+ghost use Rattle.regex.specs.Language.{Bytes};
+ghost use Rattle.table.specs.Records.{count};
+ghost use Rattle.page.specs.Outcomes.{outcomeSays, pageNumber};
+ghost use Rattle.page.specs.Pages.{classesOf, pageSays, pageLeaves, keepsScratch, PageTaken};
+ghost use Rattle.trace.specs.Numbers.{Small, Encodable, SmallPage};
 use live::Heard;
 use live::LiveLine;
 use order::Pair;
 use order::Verdict;
+use page::Outcome;
 use table::Answer;
 
 // The result, or the refusal number times 2^32 plus the detail.
@@ -56,6 +62,23 @@ fn heard_number(heard: Heard) -> u64
     match heard {
         Heard::Known(facts) => (facts.reads as u64) + 2 * (facts.extends as u64),
         Heard::Refused(why) => number_of(Answer::Refused(why)),
+    }
+}
+
+// The same of a page's answer, and 2^56 for the line rules, twice that for the page rules, and three times that for one line.
+fn outcome_number(outcome: Outcome) -> u64
+    requires { ⌜ SmallPage (outcomeSays outcome) ⌝ }
+    ensures { λ r. ⌜ r ≡ pageNumber (outcomeSays outcome) ⌝ }
+{
+    match outcome {
+        Outcome::Done(n) => n as u64,
+        Outcome::LineRules(why) => 72057594037927936 + number_of(Answer::Refused(why)),
+        Outcome::PageRules(why) => 144115188075855872 + number_of(Answer::Refused(why)),
+        Outcome::OneLine(why, line) => {
+            let numbers = table::numbers_of(why);
+            216172782113783808 + (numbers.number as u64) * 4294967296 + line as u64
+        }
+        Outcome::WholePage(why) => number_of(Answer::Refused(why)),
     }
 }
 
@@ -171,4 +194,60 @@ pub extern "C" fn trace_live_take_back(line: &mut LiveLine, work: &mut [u8]) -> 
     let step = LiveLine::taken_back(*line, work);
     *line = step.line;
     heard_number(step.answer)
+}
+
+// A page.
+#[no_mangle]
+pub extern "C" fn trace_page(
+    linetable: &[u8],
+    linestart: u64,
+    pagetable: &[u8],
+    pagestart: u64,
+    page: &[u8],
+    work: &mut [u8],
+    reading: &mut [u8],
+    first: &mut [u8],
+    second: &mut [u8],
+    out: &mut [u8],
+) -> u64
+    ensures answer { λ r.
+        ⌜ r
+        ≡ pageNumber
+        (pageSays (record { table = now (linetable .entry); start = linestart }) (record { table = now (pagetable .entry); start = pagestart })
+        (now (page .entry))
+        (record { work = length (now (work .entry)); reading = length (now (reading .entry)); first = length (now (first .entry)); second = length (now (second .entry)) })
+        (length (now (out .entry)))) ⌝ }
+    ensures buffer { λ _.
+        ⌜ now (out .exit)
+        ≡ pageLeaves (record { table = now (linetable .entry); start = linestart }) (record { table = now (pagetable .entry); start = pagestart })
+        (now (page .entry))
+        (record { work = length (now (work .entry)); reading = length (now (reading .entry)); first = length (now (first .entry)); second = length (now (second .entry)) })
+        (now (out .entry)) ⌝ }
+    ensures scratch { λ _.
+        ⌜ (keepsScratch (record { table = now (linetable .entry); start = linestart }) (record { table = now (pagetable .entry); start = pagestart })
+        (now (page .entry)) ≡ true
+        → (now (work .exit) ≡ now (work .entry)) × (now (reading .exit) ≡ now (reading .entry)) × (now (first .exit) ≡ now (first .entry))
+        × (now (second .exit) ≡ now (second .entry))) ⌝ }
+    ensures rivals { λ r.
+        ⌜ (PageTaken (record { table = now (linetable .entry); start = linestart }) (record { table = now (pagetable .entry); start = pagestart })
+        (now (page .entry))
+        (record { work = length (now (work .entry)); reading = length (now (reading .entry)); first = length (now (first .entry)); second = length (now (second .entry)) })
+        → Bytes (now (linetable .entry))
+        → workSize (count (now (pagetable .entry))) (length (classesOf (record { table = now (linetable .entry); start = linestart }) (now (page .entry))))
+        ≤ length (now (work .entry))
+        → NoneOutranks (λ x. r ≡ number x) (now (pagetable .entry)) pagestart
+        (classesOf (record { table = now (linetable .entry); start = linestart }) (now (page .entry))) (now (out .entry)) (now (out .exit))) ⌝ }
+{
+    outcome_number(page::read_page(
+        linetable,
+        linestart as usize,
+        pagetable,
+        pagestart as usize,
+        page,
+        work,
+        reading,
+        first,
+        second,
+        out,
+    ))
 }

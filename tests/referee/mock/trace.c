@@ -813,3 +813,208 @@ uint64_t trace_live_take_back(live *l, uint8_t *work, size_t work_len) {
     if (FAULT == 182 && n > 1) l->bytes[n - 2] = 0;
     return told(l, c, n, work);
 }
+
+/* A page: what is lent, and what was found of the lines so far. */
+typedef struct { const uint8_t *table; size_t len; uint64_t start; } rules;
+typedef struct {
+    rules lines, runs;
+    const uint8_t *s;
+    size_t n;
+    uint8_t *work, *reading, *list[2];
+    size_t work_len, reading_len, list_len[2];
+    uint8_t *out;
+    size_t out_len;
+    uint8_t names[4][255], class[256];
+    size_t counts[4], classes, run;
+} pg;
+
+static uint64_t named(uint64_t who, uint64_t number) { return (who << 56) + number; }
+
+static int ends(uint8_t c) { return c == 10 || (FAULT == 267 && c == 0); }
+
+static size_t line_count(const pg *p) {
+    size_t count = 0;
+    for (size_t i = 0; i < p->n; i++) count += ends(p->s[i]) || (i + 1 == p->n && FAULT != 264);
+    if (FAULT == 261 && p->n && ends(p->s[p->n - 1])) count++;
+    if (FAULT == 262 && p->n == 0) count = 1;
+    return count;
+}
+
+static int by_size(const void *a, const void *b) { return *(const uint8_t *)a - *(const uint8_t *)b; }
+
+/* Whether line i is alike with one before it, whose names are those of that place: i modulo 3, or 3 for line 0. */
+static int alike(const pg *p, size_t i, const uint8_t *own, const uint8_t *other) {
+    size_t place = FAULT == 255 ? (i + 1) % 3 : FAULT == 256 ? 3 : (i + 2) % 3, n = p->counts[i % 3], m = p->counts[place];
+    uint8_t x[255], y[255], mask = FAULT == 254 ? 127 : 255;
+    if (i == 0 || FAULT == 246 || (FAULT == 260 && n == 0)) return 0;
+    if (FAULT == 255 && i == 1) return 0;
+    memcpy(x, p->names[i % 3], n);
+    memcpy(y, p->names[place], m);
+    if (FAULT == 249) return n == m;
+    if (FAULT == 248) return (n ? x[0] : 0) == (m ? y[0] : 0);
+    if (FAULT == 250) { qsort(x, n, 1, by_size); qsort(y, m, 1, by_size); }
+    if (FAULT == 251 && n > m) n = m;
+    if (FAULT == 251) m = n;
+    if (n != m) return 0;
+    if (FAULT == 253 && n) n--;
+    for (size_t k = 0; k < n; k++) if ((x[k] ^ y[k]) & mask) return 0;
+    return FAULT != 252 || memcmp(own, other, 3 * n) == 0;
+}
+
+static uint64_t read_line(const pg *p, const uint8_t *s, size_t n) {
+    rules r = p->lines;
+    uint64_t start = FAULT == 292 ? r.len / 4 - 1 : r.start;
+    size_t room = FAULT == 311 ? (p->out_len < p->reading_len ? p->out_len : p->reading_len) : p->reading_len;
+    if (FAULT == 304 && n == 255) return refuse(7, 0);
+    if (FAULT == 305 && n == 256) n = 255;
+    if (FAULT == 266 && n && s[n - 1] == 13) n--;
+    if (FAULT == 312 && p->out_len) p->out[0] = 0;
+    return trace_read(r.table, r.len, start, s, n, p->work, p->work_len, p->reading, room);
+}
+
+/* One line, in its buffer: its names are kept, and a class is added unless it is alike with the one before. */
+static uint64_t take_line(pg *p, size_t i, const uint8_t *s, size_t n) {
+    size_t which = i % 2, need;
+    if (FAULT == 270) which = 0;
+    if (FAULT == 271) which = 1;
+    if (FAULT == 272) which = 1 - which;
+    if (FAULT == 309) which = p->classes % 2;
+    uint8_t *own = p->list[which], *other = p->list[1 - which], spare[765];
+    size_t room = p->list_len[which], least = p->list_len[0] < p->list_len[1] ? p->list_len[0] : p->list_len[1];
+    uint64_t a = read_line(p, s, n);
+    if (FAULT == 307 && a >> 32 == 8) { p->counts[i % 3] = 0; p->class[p->classes++] = 0; return 0; }
+    if (a >> 32) return a;
+    if (FAULT == 302) p->reading[p->reading_len] = 0;
+    a = trace_tokens(p->lines.table, p->lines.len, FAULT == 292 ? p->lines.len / 4 - 1 : p->lines.start, p->reading, 4 * a, spare, 765);
+    need = 3 * a;
+    if (FAULT == 273) room = p->list_len[0];
+    if (FAULT == 274) room = least;
+    if (need > room && FAULT != 275) return refuse(FAULT == 276 ? 10 : 11, need);
+    memcpy(own, spare, need < p->list_len[which] ? need : p->list_len[which]);
+    if (FAULT == 301 && which) own[room] = 0;
+    p->counts[i % 3] = a;
+    for (size_t k = 0; k < a; k++) p->names[i % 3][k] = spare[3 * k];
+    if (i == 0) {
+        memcpy(p->names[3], p->names[0], a);
+        p->counts[3] = a;
+    }
+    if (FAULT == 265 && n == 0) return 0;
+    if (FAULT == 258 && a == 0) return 0;
+    p->run = FAULT == 270 || FAULT == 271 ? i + 1 : alike(p, i, own, other) ? p->run + 1 : 1;
+    if (p->run > (FAULT == 247 ? 2 : 1)) return 0;
+    p->class[p->classes++] = a == 0 ? (FAULT == 259 ? 255 : 0) : FAULT == 257 ? spare[need - 3] : spare[0];
+    return 0;
+}
+
+static size_t line_end(const pg *p, size_t at) {
+    while (at < p->n && !ends(p->s[at])) at++;
+    return at;
+}
+
+/* Fault 280: the first line that is too long, or 256. */
+static size_t too_long(const pg *p, size_t count) {
+    for (size_t i = 0, at = 0, end; i < count; i++, at = end + 1) if ((end = line_end(p, at)) - at > 255) return i;
+    return 256;
+}
+
+static size_t longest(const pg *p, size_t count) {
+    size_t most = 0;
+    for (size_t i = 0, at = 0, end; i < count; i++, at = end + 1) if ((end = line_end(p, at)) - at > most) most = end - at;
+    return most;
+}
+
+static uint64_t line_refused(size_t i, uint64_t a) {
+    uint64_t detail = FAULT == 238 ? (uint32_t)a : i + (FAULT == 239);
+    return named(FAULT == 240 ? 0 : 3, refuse(a >> 32, detail));
+}
+
+/* Fault 281: the answer is that of the last line that is refused. */
+static uint64_t take_lines(pg *p, size_t count) {
+    uint64_t last = 0, a;
+    size_t at = 0, end, need = longest(p, count);
+    if (FAULT == 280 && too_long(p, count) < 256) return named(3, refuse(7, too_long(p, count)));
+    if (FAULT == 282 && need <= 255 && p->work_len < p->lines.len / 4 * (need + 1) * (need + 2) / 2) return named(3, refuse(10, 0));
+    if (FAULT == 268 && count == 255) count--;
+    for (size_t i = 0; i < count && i < 256; i++, at = end + 1) {
+        end = line_end(p, at);
+        if (!(a = take_line(p, i, p->s + at, end > at ? end - at : 0))) continue;
+        last = line_refused(i, a);
+        if (FAULT == 306) last = 0;
+        else if (FAULT != 281) return last;
+    }
+    return last;
+}
+
+static uint64_t read_classes(const pg *p, size_t count) {
+    rules r = FAULT == 290 ? p->lines : p->runs;
+    uint64_t start = FAULT == 291 ? r.len / 4 - 1 : r.start, a;
+    size_t n = FAULT == 269 && p->classes == 255 ? 254 : FAULT == 289 ? strnlen((const char *)p->class, p->classes) : p->classes, m = FAULT == 310 ? p->lines.len / 4 : r.len / 4, by = FAULT == 284 ? count : n;
+    if ((FAULT == 284 || FAULT == 310) && p->work_len < m * (by + 1) * (by + 2) / 2) return refuse(10, 0);
+    if (FAULT == 285 && p->work_len < m * (by + 1) * (by + 2) / 2) {
+        uint8_t *work = malloc(m * (by + 1) * (by + 2) / 2);
+        a = trace_read(r.table, r.len, start, p->class, n, work, m * (by + 1) * (by + 2) / 2, NULL, 0);
+        free(work);
+        return a >> 32 == 8 ? a : refuse(10, 0);
+    }
+    a = trace_read(r.table, r.len, start, p->class, n, p->work, p->work_len, p->out, p->out_len);
+    if (FAULT == 287 && a >> 32 && p->out_len) p->out[0]++;
+    if (FAULT == 244 && a >> 32 == 11) return refuse(11, count - 1);
+    if (FAULT == 243 && a >> 32) return named(3, a);
+    if (FAULT == 293 && a >> 32) return named(2, a);
+    if (a >> 32) return a;
+    if (FAULT == 288) memset(p->out + 4 * a, 0, p->out_len - 4 * a);
+    return FAULT == 245 ? named(3, a) : FAULT == 300 ? n : a;
+}
+
+/* 20, where it is looked for at the place of that fault, or by 0 at its own. */
+static uint64_t too_many(const pg *p, size_t count, int place) {
+    int here = place == FAULT || (place == 0 && FAULT != 233 && FAULT != 234 && FAULT != 235);
+    size_t most = FAULT == 230 ? 256 : FAULT == 231 || (FAULT == 303 && p->n && p->s[p->n - 1] != 10) ? 254 : 255;
+    if (FAULT == 308) count = count > 255 ? count % 256 : count;
+    if (FAULT == 263 && p->n == 0 && here) return refuse(20, 0);
+    if (!here || count <= most) return 0;
+    if (FAULT == 277 && p->reading_len) p->reading[0]++;
+    return named(FAULT == 237, refuse(20, FAULT == 236 ? count : 0));
+}
+
+static uint64_t rules_refused(const pg *p, rules r, uint64_t who) {
+    uint64_t c = open_table(r.table, r.len, (FAULT == 294 && who == 2) || (FAULT == 295 && who == 1) ? 0 : r.start);
+    if (!(c >> 32)) return 0;
+    if (FAULT == 278 && who == 1 && p->work_len) p->work[0]++;
+    if (FAULT == 279 && who == 2 && p->list_len[1]) p->list[1][0]++;
+    if ((FAULT == 241 && who == 1) || (FAULT == 242 && who == 2)) who = 3 - who;
+    return named(who, c);
+}
+
+__attribute__((noinline)) static void deep_page(size_t count) {
+    volatile uint8_t *big = __builtin_alloca(count * 8192 + 1);
+    big[0] = big[count * 8192] = 0;
+}
+
+uint64_t trace_page(const uint8_t *line_table, size_t line_table_len, uint64_t line_start, const uint8_t *page_table,
+                    size_t page_table_len, uint64_t page_start, const uint8_t *page, size_t page_len, uint8_t *work,
+                    size_t work_len, uint8_t *reading, size_t reading_len, uint8_t *first, size_t first_len,
+                    uint8_t *second, size_t second_len, uint8_t *out, size_t out_len) {
+    pg p = {{line_table, line_table_len, line_start}, {page_table, page_table_len, page_start}, page, page_len, work, reading,
+            {first, second}, work_len, reading_len, {first_len, second_len}, out, out_len, {{0}}, {0}, {0}, 0, 0};
+    size_t count = line_count(&p);
+    uint64_t e;
+    if (FAULT == 296 && page_len && page[page_len] == 9) return 0;
+    if (FAULT == 297 && page_table_len && page_table[page_table_len] == 9) return 0;
+    if (FAULT == 232 && (e = rules_refused(&p, p.runs, 2))) return e;
+    if ((e = too_many(&p, count, 233))) return e;
+    if ((e = rules_refused(&p, p.lines, 1))) return e;
+    if ((e = too_many(&p, count, 234))) return e;
+    if ((e = rules_refused(&p, p.runs, 2))) return e;
+    if (FAULT == 295 && line_start >= line_table_len / 4) return named(1, refuse(9, 0));
+    if ((e = too_many(&p, count, 0))) return e;
+    if (FAULT == 283 && work_len < page_table_len / 4) return refuse(10, 0);
+    if (FAULT == 298) deep_page(count);
+    if (FAULT == 308) count %= 256;
+    if ((e = take_lines(&p, count))) return e;
+    if ((e = too_many(&p, count, 235))) return e;
+    if (FAULT == 286 && count == 0) return 0;
+    if (FAULT == 294 && page_start >= page_table_len / 4) return named(2, refuse(9, 0));
+    if (FAULT == 299 && page_len) ((uint8_t *)page)[page_len - 1]++;
+    return read_classes(&p, count);
+}

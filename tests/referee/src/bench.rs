@@ -1,8 +1,10 @@
 //! The lines on the bench of document 01: tables T1 to T4, cases A to J and
 //! the edges. And lines for Other, for empty tagged parts, for the notation, for
-//! names that must come first, and for lengths and record numbers that are not
-//! the true ones, requests 1 to 3, 5 and 6 of document 02.
+//! names that must come first, for lengths and record numbers that are not the
+//! true ones, and for pages, requests 1 to 3, 5, 6 and 8 of document 02.
 
+use crate::calls::{self, Reader};
+use crate::page::{Page, Rooms, Rules, Who};
 use crate::pairs::Pair;
 
 pub const T1: &[u8] = &[
@@ -113,6 +115,41 @@ pub enum Request {
     Tokens { table: Vec<u8>, start: u64, reading: Vec<u8> },
     Compile { text: Vec<u8> },
     Order { tokens: Vec<u8>, pairs: Vec<Pair> },
+    Page(Page),
+}
+
+impl Request {
+    /// What the referee answers; what it writes goes to the buffer.
+    pub fn answer(&self, reader: &mut Reader, out: &mut [u8]) -> u64 {
+        match self {
+            Request::Check { table } => calls::trace_check(table),
+            Request::Read { table, start, line, work_len } => {
+                reader.trace_read(table, *start, line, *work_len, out)
+            }
+            Request::Spell { table, start, reading } => {
+                calls::trace_spell(table, *start, reading, out)
+            }
+            Request::Compare { table, start, first, second } => {
+                calls::trace_compare(table, *start, first, second)
+            }
+            Request::Tokens { table, start, reading } => {
+                calls::trace_tokens(table, *start, reading, out)
+            }
+            Request::Compile { text } => calls::trace_compile(text, out),
+            Request::Order { tokens, pairs } => calls::trace_order(tokens, pairs),
+            Request::Page(page) => page.answer(reader, out),
+        }
+    }
+
+    /// The bytes of what a result counts: none where nothing is written.
+    pub fn width(&self) -> usize {
+        match self {
+            Request::Check { .. } | Request::Compare { .. } | Request::Order { .. } => 0,
+            Request::Spell { .. } => 1,
+            Request::Tokens { .. } => 3,
+            Request::Read { .. } | Request::Compile { .. } | Request::Page(_) => 4,
+        }
+    }
 }
 
 fn read(name: &'static str, table: &[u8], line: &[u8], reading: &[u8]) -> Stated {
@@ -288,6 +325,7 @@ pub fn stated() -> Vec<Stated> {
     lines.extend(wrong_ones(&b));
     lines.extend(texts);
     lines.extend(orders());
+    lines.extend(pages());
     lines
 }
 
@@ -384,12 +422,50 @@ fn orders() -> Vec<Stated> {
     ]
 }
 
+/// Pages by T1, whose names are 1 to 3, and by page rules that read the class
+/// bytes one by one, whichever they are; and by some that do not.
+fn pages() -> Vec<Stated> {
+    let rules = |table: &[u8]| Rules { table: table.to_vec(), start: table.len() as u64 / 4 - 1 };
+    let each = [2, 0, 255, 0, 5, 0, 0, 0];
+    let ample = Rooms { work: 70_000, reading: 400, first: 30, second: 30 };
+    let page = |name, text: &[u8], runs: &[u8], rooms, number, written| {
+        let (by_lines, by_runs) = (rules(T1), rules(runs));
+        let request = Request::Page(Page { by_lines, by_runs, text: text.to_vec(), rooms });
+        Stated { name, request, number, written }
+    };
+    let read = |name, text: &[u8], classes: &[u8]| {
+        let n = classes.len() as u8;
+        let reading = [5, n, n, 1].into_iter().chain(classes.iter().flat_map(|&c| [1, c, 1, 0]));
+        page(name, text, &each, ample, 1 + u64::from(n), reading.collect())
+    };
+    let refused = |name, text: &[u8], runs: &[u8], rooms, who: Who, number| {
+        page(name, text, runs, rooms, who.names(number), vec![])
+    };
+    let short = |first, second| Rooms { first, second, ..ample };
+    vec![
+        read("an empty page", b"", &[]),
+        read("a lone byte 10", b"\n", &[0]),
+        read("no closing byte 10", b"ab", &[2]),
+        read("a closing byte 10", b"ab\n", &[2]),
+        read("an empty line at the end", b"ab\n\n", &[2, 0]),
+        read("two lines alike", b"ab\nab\n", &[2]),
+        read("names alike, other texts", b"aab\naab\nabc\nbca\nbcab", &[1, 1, 3, 3]),
+        read("a run, and again", b"a\na\nab\na\n", &[1, 2, 1]),
+        read("one name more", b"a\naa\na", &[1, 1, 1]),
+        read("255 lines", &b"\n".repeat(255), &[0]),
+        refused("256 lines", &b"\n".repeat(256), &each, Rooms::NONE, Who::Page, refusal(20)),
+        refused("line 1 by 8", b"a\nb\nb", &each, ample, Who::Line, refusal(8) + 1),
+        refused("line 1 by 11", b"ab\nab", &each, short(3, 2), Who::Line, refusal(11) + 1),
+        refused("line 0 by 11", b"ab\nab", &each, short(2, 3), Who::Line, refusal(11)),
+        refused("the page by 8", b"ab\na", &[2, 2, 2, 0], ample, Who::Page, refusal(8)),
+        refused("the page's rules by 2", b"b", &[7, 0, 0, 0], ample, Who::PageRules, refusal(2)),
+    ]
+}
+
 #[cfg(test)]
 mod tests {
     use super::*;
-    use crate::calls::{
-        trace_check, trace_compare, trace_compile, trace_order, trace_spell, trace_tokens, Reader,
-    };
+    use crate::calls::{trace_compare, trace_compile, trace_spell, trace_tokens};
     use crate::order::rank;
     use crate::random::{
         all_lines, all_tables, changed_line, damaged_reading, rival, table, Grower, Rng, Room,
@@ -405,23 +481,7 @@ mod tests {
         let mut reader = Reader::default();
         for case in stated() {
             let mut out = vec![0xa5; case.written.len() + 600];
-            let number = match &case.request {
-                Request::Check { table } => trace_check(table),
-                Request::Read { table, start, line, work_len } => {
-                    reader.trace_read(table, *start, line, *work_len, &mut out)
-                }
-                Request::Spell { table, start, reading } => {
-                    trace_spell(table, *start, reading, &mut out)
-                }
-                Request::Compare { table, start, first, second } => {
-                    trace_compare(table, *start, first, second)
-                }
-                Request::Tokens { table, start, reading } => {
-                    trace_tokens(table, *start, reading, &mut out)
-                }
-                Request::Compile { text } => trace_compile(text, &mut out),
-                Request::Order { tokens, pairs } => trace_order(tokens, pairs),
-            };
+            let number = case.request.answer(&mut reader, &mut out);
             let (front, rest) = out.split_at(case.written.len());
             assert_eq!(number, case.number, "{}", case.name);
             assert_eq!(front, case.written, "{}", case.name);

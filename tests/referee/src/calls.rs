@@ -9,6 +9,7 @@ use crate::relation;
 use crate::table::{check, pack, refuse, Refusal, Table};
 use crate::value::{fit, Value, RECORD};
 use std::cmp::Ordering;
+use std::collections::HashMap;
 
 /// Derivatives beyond this many are left to the relation alone.
 pub const BUDGET: usize = 60_000;
@@ -22,28 +23,39 @@ pub fn work_need(records: usize, line_len: usize) -> usize {
     records * (line_len + 1) * (line_len + 2) / 2
 }
 
-/// A line that was read: by which table and record, and how.
-struct Last {
+/// Lines that were read by one record of a table, and how.
+struct Kept {
     table: Table,
     k: usize,
-    line: Vec<u8>,
-    reading: Option<Vec<u8>>,
+    readings: HashMap<Vec<u8>, Option<Vec<u8>>>,
 }
 
-/// Gives the POSIX reading by both roads and keeps the last one.
+/// Gives the POSIX reading by both roads, and keeps those by the last two
+/// tables: a page is read by two.
 #[derive(Default)]
 pub struct Reader {
-    last: Option<Last>,
+    kept: Vec<Kept>,
     pub by_derivatives: u64,
     pub by_relation_alone: u64,
 }
 
 impl Reader {
-    pub fn reading(&mut self, table: &Table, k: usize, line: &[u8]) -> Option<Vec<u8>> {
-        if let Some(last) = &self.last {
-            if last.table == *table && last.k == k && last.line == line {
-                return last.reading.clone();
+    /// The place of what is kept for the record. Of the others one is.
+    fn place(&mut self, table: &Table, k: usize) -> usize {
+        let found = self.kept.iter().position(|kept| kept.k == k && kept.table == *table);
+        found.unwrap_or_else(|| {
+            if self.kept.len() == 2 {
+                self.kept.remove(0);
             }
+            self.kept.push(Kept { table: table.clone(), k, readings: HashMap::new() });
+            self.kept.len() - 1
+        })
+    }
+
+    pub fn reading(&mut self, table: &Table, k: usize, line: &[u8]) -> Option<Vec<u8>> {
+        let place = self.place(table, k);
+        if let Some(reading) = self.kept[place].readings.get(line) {
+            return reading.clone();
         }
         let by_relation = relation::read(table, k, line);
         match posix::read(table, k, line, BUDGET) {
@@ -59,8 +71,8 @@ impl Reader {
             None => self.by_relation_alone += 1,
         }
         let reading = by_relation.map(|v| v.reading(table, k));
-        let last = Last { table: table.clone(), k, line: line.to_vec(), reading };
-        self.last.insert(last).reading.clone()
+        self.kept[place].readings.insert(line.to_vec(), reading.clone());
+        reading
     }
 
     pub fn trace_read(
@@ -83,19 +95,43 @@ impl Reader {
         out: &mut [u8],
     ) -> Result<u64, Refusal> {
         let (table, k) = open(table, start)?;
+        self.written(&table, k, line, work_len, out)
+    }
+
+    /// Refusals 7, 10, 8 and 11, or the reading, with room for so many bytes.
+    pub fn admitted(
+        &mut self,
+        table: &Table,
+        k: usize,
+        line: &[u8],
+        work_len: usize,
+        room: usize,
+    ) -> Result<Vec<u8>, Refusal> {
         if line.len() > 255 {
             return refuse(7, 0);
         }
         if work_len < work_need(table.records.len(), line.len()) {
             return refuse(10, 0);
         }
-        match self.reading(&table, k, line) {
+        match self.reading(table, k, line) {
             None => refuse(8, 0),
-            Some(reading) => {
-                put(&reading, out)?;
-                Ok((reading.len() / RECORD) as u64)
-            }
+            Some(reading) if reading.len() > room => refuse(11, reading.len()),
+            Some(reading) => Ok(reading),
         }
+    }
+
+    /// The same, with the reading written.
+    pub fn written(
+        &mut self,
+        table: &Table,
+        k: usize,
+        line: &[u8],
+        work_len: usize,
+        out: &mut [u8],
+    ) -> Result<u64, Refusal> {
+        let reading = self.admitted(table, k, line, work_len, out.len())?;
+        out[..reading.len()].copy_from_slice(&reading);
+        Ok((reading.len() / RECORD) as u64)
     }
 }
 
@@ -172,13 +208,22 @@ fn compare(table: &[u8], start: u64, first: &[u8], second: &[u8]) -> Result<u64,
 
 fn tokens(table: &[u8], start: u64, reading: &[u8], out: &mut [u8]) -> Result<u64, Refusal> {
     let (table, k) = open(table, start)?;
-    let value = fitting(&table, k, reading, 0)?;
-    let mut list = Vec::new();
-    walk(&table, k, &value, &mut 0, &mut list);
-    // One token for each byte at most: 3 bytes for each are always enough.
-    assert!(list.len() <= 3 * value.line().len(), "the referee lists more tokens than bytes");
+    let list = list_of(&table, k, &fitting(&table, k, reading, 0)?);
     put(&list, out)?;
     Ok(list.len() as u64 / 3)
+}
+
+/// The tokens of a reading that fits.
+pub fn listed(table: &Table, k: usize, reading: &[u8]) -> Vec<u8> {
+    list_of(table, k, &fit(table, k, reading).expect("a reading that fits"))
+}
+
+fn list_of(table: &Table, k: usize, value: &Value) -> Vec<u8> {
+    let mut list = Vec::new();
+    walk(table, k, value, &mut 0, &mut list);
+    // One token for each byte at most: 3 bytes for each are always enough.
+    assert!(list.len() <= 3 * value.line().len(), "the referee lists more tokens than bytes");
+    list
 }
 
 /// Walks a value parent first; the offset moves on by the bytes passed. A

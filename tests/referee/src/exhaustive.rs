@@ -2,22 +2,19 @@
 
 use crate::harness::{check, compare, read, spell, tokens, Harness};
 use crate::unfit;
-use referee::bench::{refusal, stated, Request, T1};
+use referee::bench::{refusal, stated, T1};
 use referee::calls::work_need;
-use referee::random::{all_lines, all_tables, star_nest};
+use referee::random::{all_lines, all_tables, star_nest, tagged};
 use referee::rivals::rivals;
 use referee::table::{Letter, Table};
 use referee::value::RECORD;
 
-/// Cases A to J, the edges, Other, empty tagged parts, texts and pairs of
-/// names, against stated answers.
+/// Cases A to J, the edges, Other, empty tagged parts, texts, pairs of names and
+/// pages, against stated answers.
 pub fn bench(h: &mut Harness) {
     for case in stated() {
         h.from(format!("case {}", case.name));
-        let out_len = match &case.request {
-            Request::Check { .. } | Request::Compare { .. } | Request::Order { .. } => 0,
-            _ => case.written.len() + 9,
-        };
+        let out_len = if case.request.width() == 0 { 0 } else { case.written.len() + 9 };
         h.put_stated(case.request.clone(), out_len, case.number, &case.written);
         if out_len > 0 {
             h.put_stated(case.request, case.written.len(), case.number, &case.written);
@@ -136,11 +133,7 @@ fn all_rivals(h: &mut Harness, table: &Table, k: usize, line: &[u8]) {
     // The tags on every choice of records.
     if k + 1 == table.records.len() && line.len() < 4 {
         for mask in 0..1 << (k + 1) {
-            let mut tagged = table.clone();
-            for (i, record) in tagged.records.iter_mut().enumerate() {
-                record.tag = if mask >> i & 1 == 1 { 10 + i as u8 } else { 0 };
-            }
-            let bytes = tagged.bytes();
+            let bytes = tagged(table, mask).bytes();
             h.put(tokens(&bytes, start, &best), 24);
             h.put(tokens(&bytes, start, &best), 3 * line.len());
             h.put(tokens(&bytes, start, all.last().expect("a rival")), 3);

@@ -2,10 +2,10 @@
 //! referee with every lent byte compared.
 
 use referee::bench::Request;
-use referee::calls::{self, Reader};
+use referee::calls::Reader;
 use referee::live::Line;
+use referee::page::{Page, Who};
 use referee::pairs::Pair;
-use referee::value::RECORD;
 
 extern "C" {
     fn trace_check(table: *const u8, table_len: usize) -> u64;
@@ -53,6 +53,26 @@ extern "C" {
         tokens_len: usize,
         pairs: *const Pair,
         pairs_len: usize,
+    ) -> u64;
+    fn trace_page(
+        line_table: *const u8,
+        line_table_len: usize,
+        line_start: u64,
+        page_table: *const u8,
+        page_table_len: usize,
+        page_start: u64,
+        page: *const u8,
+        page_len: usize,
+        work: *mut u8,
+        work_len: usize,
+        reading: *mut u8,
+        reading_len: usize,
+        first: *mut u8,
+        first_len: usize,
+        second: *mut u8,
+        second_len: usize,
+        out: *mut u8,
+        out_len: usize,
     ) -> u64;
     pub fn trace_live_new(line: *mut Line, table: *const u8, table_len: usize, start: u64) -> u64;
     pub fn trace_live_add(line: *mut Line, byte: u8, work: *mut u8, work_len: usize) -> u64;
@@ -143,37 +163,13 @@ fn fresh_out(case: &Case, lending: Lending) -> Vec<u8> {
 /// What the referee answers: the number and the output buffer after the call.
 fn expected(reader: &mut Reader, case: &Case, lending: Lending) -> (u64, Vec<u8>) {
     let mut out = fresh_out(case, lending);
-    let number = match &case.request {
-        Request::Check { table } => calls::trace_check(table),
-        Request::Read { table, start, line, work_len } => {
-            reader.trace_read(table, *start, line, *work_len, &mut out)
-        }
-        Request::Spell { table, start, reading } => {
-            calls::trace_spell(table, *start, reading, &mut out)
-        }
-        Request::Compare { table, start, first, second } => {
-            calls::trace_compare(table, *start, first, second)
-        }
-        Request::Tokens { table, start, reading } => {
-            calls::trace_tokens(table, *start, reading, &mut out)
-        }
-        Request::Compile { text } => calls::trace_compile(text, &mut out),
-        Request::Order { tokens, pairs } => calls::trace_order(tokens, pairs),
-    };
-    (number, out)
+    (case.request.answer(reader, &mut out), out)
 }
 
 /// What the referee answers: the number and the bytes it writes.
 pub fn answer(reader: &mut Reader, case: &Case) -> (u64, Vec<u8>) {
     let (number, mut out) = expected(reader, case, Lending::Guarded);
-    let width = match &case.request {
-        Request::Check { .. } | Request::Compare { .. } | Request::Order { .. } => 0,
-        Request::Read { .. } => RECORD,
-        Request::Spell { .. } => 1,
-        Request::Tokens { .. } => 3,
-        Request::Compile { .. } => 4,
-    };
-    let len = if number >> 32 == 0 { number as usize * width } else { 0 };
+    let len = if number >> 32 == 0 { number as usize * case.request.width() } else { 0 };
     out.truncate(len);
     (number, out)
 }
@@ -259,6 +255,45 @@ fn ask(case: &Case, lending: Lending) -> (u64, Vec<u8>, Option<&'static str>) {
             }
             number
         }
+        Request::Page(Page { by_lines, by_runs, text, rooms }) => {
+            let (l, r, t) = (by_lines.table.clone(), by_runs.table.clone(), text.clone());
+            let lent = [rooms.work, rooms.reading, rooms.first, rooms.second];
+            let mut lent = lent.map(|len| Lent::new(len, case.seed ^ 0x5a, lending));
+            let [work, reading, first, second] = &mut lent;
+            let number = unsafe {
+                trace_page(
+                    l.as_ptr(),
+                    l.len(),
+                    by_lines.start,
+                    r.as_ptr(),
+                    r.len(),
+                    by_runs.start,
+                    t.as_ptr(),
+                    t.len(),
+                    work.pointer(),
+                    work.len(),
+                    reading.pointer(),
+                    reading.len(),
+                    first.pointer(),
+                    first.len(),
+                    second.pointer(),
+                    second.len(),
+                    out.pointer(),
+                    out.len(),
+                )
+            };
+            let (who, refusal) = parts(number);
+            let free =
+                refusal != 20 && who != Who::LineRules as u64 && who != Who::PageRules as u64;
+            if l != by_lines.table || r != by_runs.table || t != *text {
+                fault = Some("a table or the page was changed");
+            } else if !lent.iter().all(Lent::guards_hold) {
+                fault = Some("a byte beside the work area or a buffer for lines was changed");
+            } else if !free && !lent.iter().all(Lent::untouched) {
+                fault = Some("the work area or a buffer for lines was changed");
+            }
+            number
+        }
     };
     if !out.guards_hold() {
         fault = Some("a byte beside the output buffer was changed");
@@ -266,10 +301,19 @@ fn ask(case: &Case, lending: Lending) -> (u64, Vec<u8>, Option<&'static str>) {
     (number, out.inside().to_vec(), fault)
 }
 
+/// The one that an answer names, and the refusal's number, 0 for a result.
+pub fn parts(number: u64) -> (u64, u64) {
+    (number >> 56, number >> 32 & 0xff_ffff)
+}
+
 pub fn name(number: u64) -> String {
-    match number >> 32 {
-        0 => format!("{number}"),
-        refusal => format!("refusal {refusal}, detail {}", number & 0xffff_ffff),
+    match parts(number) {
+        (0, 0) => format!("{number}"),
+        (who, refusal) => {
+            let whose = ["", " of the line rules", " of the page rules", " of a line"];
+            let whose = whose.get(who as usize).unwrap_or(&" of no one");
+            format!("refusal {refusal}{whose}, detail {}", number & 0xffff_ffff)
+        }
     }
 }
 

@@ -7,6 +7,7 @@ use crate::shrink::{hex, show, shrink};
 use referee::bench::Request;
 use referee::calls::Reader;
 use referee::live::{Facts, Typist};
+use referee::page::{Page, Rooms, Rules};
 use referee::pairs::Pair;
 use referee::table::Table;
 use std::collections::BTreeMap;
@@ -14,8 +15,11 @@ use std::time::Instant;
 
 /// The answers met: the call, the refusal number (0 for a result), in Compare
 /// the result or the detail, in Order whether a pair was broken, and of a live
-/// line the facts.
+/// line the facts. Page is one call for each that it names.
 type Met = BTreeMap<(&'static str, u64, u64), u64>;
+
+/// Page, by the one that is named.
+const PAGE: [&str; 4] = ["page", "page, line rules", "page, page rules", "page, a line"];
 
 /// What each call can answer.
 const ANSWERS: &[(&str, &[u64])] = &[
@@ -26,6 +30,10 @@ const ANSWERS: &[(&str, &[u64])] = &[
     ("compare", &[0, 1, 2, 3, 4, 5, 6, 9, 12, 14]),
     ("compile", &[0, 11, 15, 16]),
     ("order", &[0, 17, 18]),
+    (PAGE[0], &[0, 8, 10, 11, 20]),
+    (PAGE[1], &[1, 2, 3, 4, 5, 6, 9]),
+    (PAGE[2], &[1, 2, 3, 4, 5, 6, 9]),
+    (PAGE[3], &[7, 8, 10, 11]),
     ("live_new", &[0, 1, 2, 3, 4, 5, 6, 9]),
     ("live_add", &[0, 1, 2, 3, 4, 5, 6, 7, 9, 10]),
     ("live_take_back", &[0, 1, 2, 3, 4, 5, 6, 7, 9, 10, 19]),
@@ -138,8 +146,11 @@ impl Harness {
     }
 
     fn meet(&mut self, request: &Request, number: u64) {
-        let (refusal, rest) = (number >> 32, number & 0xffff_ffff);
-        let call = call_name(request);
+        let ((who, refusal), rest) = (ffi::parts(number), number & 0xffff_ffff);
+        let call = match request {
+            Request::Page(_) => PAGE[who as usize],
+            _ => call_name(request),
+        };
         let rest = match (request, refusal) {
             (Request::Compare { .. }, 0 | 12) => rest,
             (Request::Order { tokens, .. }, 0) => u64::from(number < tokens.len() as u64 / 3),
@@ -204,6 +215,7 @@ fn call_name(request: &Request) -> &'static str {
         Request::Compare { .. } => "compare",
         Request::Compile { .. } => "compile",
         Request::Order { .. } => "order",
+        Request::Page(_) => PAGE[0],
     }
 }
 
@@ -234,6 +246,11 @@ pub fn check(table: &[u8]) -> Request {
 
 pub fn compile(text: &[u8]) -> Request {
     Request::Compile { text: text.to_vec() }
+}
+
+pub fn page(by_lines: &Rules, by_runs: &Rules, text: &[u8], rooms: Rooms) -> Request {
+    let (by_lines, by_runs) = (by_lines.clone(), by_runs.clone());
+    Request::Page(Page { by_lines, by_runs, text: text.to_vec(), rooms })
 }
 
 pub fn order(tokens: &[u8], pairs: &[Pair]) -> Request {

@@ -1,11 +1,11 @@
-//! A second implementation of document 01, with asks 1 to 3 and 5 to 7 of
+//! A second implementation of document 01, with asks 1 to 3 and 5 to 8 of
 //! document 02, written from their text.
 //!
 //! Read is done twice: by derivatives with injection (`posix`) and by the
 //! rules of the relation with an automaton for the languages (`relation`).
 //! Compile is done by the spans of a text (`notation`), Order by looking back
-//! from each token (`pairs`), and what a live line can become by derivatives on
-//! expressions of another form (`live`).
+//! from each token (`pairs`), what a live line can become by derivatives on
+//! expressions of another form (`live`), and a page line by line (`page`).
 //! Nothing here calls the library under test.
 
 pub mod bench;
@@ -13,6 +13,7 @@ pub mod calls;
 pub mod live;
 pub mod notation;
 pub mod order;
+pub mod page;
 pub mod pairs;
 pub mod posix;
 pub mod random;

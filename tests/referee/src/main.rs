@@ -5,6 +5,7 @@
 //! referee notation             the part of the gate on Compile
 //! referee order                the part of the gate on Order
 //! referee live                 the part of the gate on live lines
+//! referee page                 the part of the gate on pages
 //! referee stack                deepest nestings on a stack of 1 MiB
 //! referee memcheck             exactly sized buffers, for valgrind
 
@@ -13,6 +14,7 @@ mod ffi;
 mod harness;
 mod lists;
 mod memcheck;
+mod pages;
 mod sampled;
 mod script;
 mod shrink;
@@ -36,11 +38,16 @@ const TABLE: Round = ("table", sampled::round);
 const TEXT: Round = ("text", texts::round);
 const LIST: Round = ("list", lists::round);
 const LIVE: Round = ("live line", typing::round);
+const PAGE: Round = ("page", pages::round);
 
-/// So many rounds, each from a seed of its own.
-fn rounds(h: &mut Harness, round: Round, size: Size, seed: u64, count: u64) {
-    for i in 0..count {
-        one_round(h, round, size, seed, i);
+/// Rounds of each size, so many of them, each from a seed of its own; and the
+/// name of that part.
+fn rounds(h: &mut Harness, round: Round, parts: [(u64, &str); 3]) {
+    for (size, (count, name)) in [Size::Small, Size::Medium, Size::Long].into_iter().zip(parts) {
+        for i in 0..count {
+            one_round(h, round, size, GATE_SEED, i);
+        }
+        h.done(name);
     }
 }
 
@@ -64,15 +71,16 @@ fn gate() -> bool {
     h.done("wrong lengths and record numbers in the readings of small tables");
     exhaustive::lengths(&mut h);
     h.done("lines of every length");
-    rounds(&mut h, TABLE, Size::Small, GATE_SEED, 4000);
-    h.done("random small tables");
-    rounds(&mut h, TABLE, Size::Medium, GATE_SEED, 250);
-    h.done("random tables of up to 61 records");
-    rounds(&mut h, TABLE, Size::Long, GATE_SEED, 16);
-    h.done("random tables of up to 255 records");
+    let parts = [
+        (4000, "random small tables"),
+        (250, "random tables of up to 61 records"),
+        (16, "random tables of up to 255 records"),
+    ];
+    rounds(&mut h, TABLE, parts);
     notation(&mut h);
     order(&mut h);
     live(&mut h);
+    page(&mut h);
     h.coverage()
 }
 
@@ -89,12 +97,12 @@ fn notation(h: &mut Harness) {
     h.done("all texts of up to 6 words");
     texts::lengths(h);
     h.done("texts of every length");
-    rounds(h, TEXT, Size::Small, GATE_SEED, 10_000);
-    h.done("random short texts");
-    rounds(h, TEXT, Size::Medium, GATE_SEED, 2000);
-    h.done("random texts of up to 120 records");
-    rounds(h, TEXT, Size::Long, GATE_SEED, 300);
-    h.done("random texts of up to 4,099 bytes");
+    let parts = [
+        (10_000, "random short texts"),
+        (2000, "random texts of up to 120 records"),
+        (300, "random texts of up to 4,099 bytes"),
+    ];
+    rounds(h, TEXT, parts);
 }
 
 fn order(h: &mut Harness) {
@@ -109,12 +117,12 @@ fn order(h: &mut Harness) {
     h.done("pairs of every number");
     lists::lengths(h);
     h.done("lists of up to 1,000,000 tokens");
-    rounds(h, LIST, Size::Small, GATE_SEED, 10_000);
-    h.done("random short lists");
-    rounds(h, LIST, Size::Medium, GATE_SEED, 1000);
-    h.done("random lists of up to 300 tokens");
-    rounds(h, LIST, Size::Long, GATE_SEED, 60);
-    h.done("random lists of up to 1,000 tokens");
+    let parts = [
+        (10_000, "random short lists"),
+        (1000, "random lists of up to 300 tokens"),
+        (60, "random lists of up to 1,000 tokens"),
+    ];
+    rounds(h, LIST, parts);
 }
 
 fn live(h: &mut Harness) {
@@ -131,12 +139,31 @@ fn live(h: &mut Harness) {
     }
     typing::small(h, 5, 2, false);
     h.done("live lines by all tables of up to 5 records");
-    rounds(h, LIVE, Size::Small, GATE_SEED, 3000);
-    h.done("live lines by random small tables");
-    rounds(h, LIVE, Size::Medium, GATE_SEED, 200);
-    h.done("live lines by random tables of up to 61 records");
-    rounds(h, LIVE, Size::Long, GATE_SEED, 30);
-    h.done("live lines by random tables of up to 255 records");
+    let parts = [
+        (3000, "live lines by random small tables"),
+        (200, "live lines by random tables of up to 61 records"),
+        (30, "live lines by random tables of up to 255 records"),
+    ];
+    rounds(h, LIVE, parts);
+}
+
+fn page(h: &mut Harness) {
+    pages::small(h, 7);
+    h.done("all pages of up to 7 bytes");
+    pages::tables(h, 3);
+    h.done("pages by all tables of up to 3 records");
+    pages::bytes(h);
+    h.done("pages with every byte");
+    pages::counts(h);
+    h.done("pages of every number of lines");
+    pages::lengths(h);
+    h.done("pages with lines of every length");
+    let parts = [
+        (4000, "random pages by small tables"),
+        (200, "random pages by tables of up to 61 records"),
+        (20, "random pages by tables of up to 255 records"),
+    ];
+    rounds(h, PAGE, parts);
 }
 
 fn soak(seconds: u64, seed: u64) {
@@ -153,6 +180,7 @@ fn soak(seconds: u64, seed: u64) {
         one_round(&mut h, TEXT, size, seed, i);
         one_round(&mut h, LIST, size, seed, i);
         one_round(&mut h, LIVE, size, seed, i);
+        one_round(&mut h, PAGE, size, seed, i);
         i += 1;
     }
     h.done(&format!("soak, {i} rounds of seed {seed}"));
@@ -167,6 +195,7 @@ fn run(arguments: &[String]) -> bool {
         ["notation"] => notation(&mut Harness::new(Lending::Guarded)),
         ["order"] => order(&mut Harness::new(Lending::Guarded)),
         ["live"] => live(&mut Harness::new(Lending::Guarded)),
+        ["page"] => page(&mut Harness::new(Lending::Guarded)),
         ["stack"] => stack::run(),
         ["memcheck"] => memcheck::run(),
         ["soak", seconds] => match number(seconds) {
@@ -190,7 +219,7 @@ fn main() {
         Ok(true) => {}
         Ok(false) => {
             eprintln!(
-                "usage: referee gate | soak SECONDS [SEED] | notation | order | live | stack | memcheck"
+                "usage: referee gate | soak SECONDS [SEED] | notation | order | live | page | stack | memcheck"
             );
             std::process::exit(2);
         }

@@ -5,6 +5,7 @@ use crate::exhaustive;
 use crate::ffi::Lending;
 use crate::harness::Harness;
 use crate::lists;
+use crate::pages;
 use crate::sampled::{round, Size};
 use crate::texts;
 use crate::typing;
@@ -66,4 +67,10 @@ pub fn run() {
         typing::round(&mut h, &mut rng, if i % 8 == 7 { Size::Medium } else { Size::Small });
     }
     h.done("memory, live lines");
+    pages::torn(&mut h);
+    for i in 0..24 {
+        h.from(format!("memory, page round {i}"));
+        pages::round(&mut h, &mut rng, if i % 8 == 7 { Size::Medium } else { Size::Small });
+    }
+    h.done("memory, pages");
 }

@@ -1,4 +1,5 @@
-//! Random tables, readings, lines, token lists and damages from a fixed seed.
+//! Random tables, readings, lines, pages, token lists and damages from a fixed
+//! seed.
 
 use crate::notation::SPECIAL;
 use crate::pairs::{names, Pair};
@@ -392,6 +393,24 @@ pub fn changed_line(rng: &mut Rng, line: &[u8]) -> Vec<u8> {
     line
 }
 
+/// A page of so many of these lines, now and then the same one again, with a
+/// closing byte 10 or without.
+pub fn page(rng: &mut Rng, lines: &[Vec<u8>], count: usize) -> Vec<u8> {
+    let mut page = Vec::new();
+    let mut line = rng.choose(lines);
+    for _ in 0..count {
+        if !rng.once_in(3) {
+            line = rng.choose(lines);
+        }
+        page.extend(&line);
+        page.push(10);
+    }
+    if rng.once_in(3) {
+        page.pop();
+    }
+    page
+}
+
 /// A start number outside a table of so many records.
 pub fn bad_start(rng: &mut Rng, records: usize) -> u64 {
     let m = records as u64;
@@ -538,6 +557,16 @@ pub fn all_tables(records: usize, visit: &mut dyn FnMut(&Table)) {
         }
     }
     extend(&mut Table { records: vec![] }, &[], records, visit);
+}
+
+/// The table with tags of their own on the records whose bits are in the mask, and
+/// on no other.
+pub fn tagged(table: &Table, mask: usize) -> Table {
+    let mut tagged = table.clone();
+    for (i, record) in tagged.records.iter_mut().enumerate() {
+        record.tag = if mask >> i & 1 == 1 { 10 + i as u8 } else { 0 };
+    }
+    tagged
 }
 
 /// All lines over the letters a and b of up to so many bytes.

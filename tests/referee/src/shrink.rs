@@ -4,6 +4,7 @@ use crate::ffi::Case;
 use crate::harness;
 use referee::bench::Request;
 use referee::calls::work_need;
+use referee::page::{Page, Rules};
 use referee::pairs::Pair;
 use referee::random::{all_lines, all_tables};
 use referee::rivals::rivals;
@@ -35,7 +36,7 @@ pub fn shrink(case: &Case, fails: &mut dyn FnMut(&Case) -> bool) -> Case {
 /// Goes through small tables, lines and rivals for a case of the same call
 /// that fails and is smaller than the given one.
 fn search(case: &Case, fails: &mut dyn FnMut(&Case) -> bool) -> Option<Case> {
-    if let Request::Compile { .. } | Request::Order { .. } = case.request {
+    if let Request::Compile { .. } | Request::Order { .. } | Request::Page(_) = case.request {
         return None;
     }
     let limit = Instant::now() + Duration::from_secs(10);
@@ -73,7 +74,10 @@ fn small_requests(case: &Case, table: &Table, line: &[u8]) -> Vec<Request> {
     let (bytes, start) = (table.bytes(), k as u64);
     let all = small_readings(table, k, line);
     match &case.request {
-        Request::Check { .. } | Request::Compile { .. } | Request::Order { .. } => vec![],
+        Request::Check { .. }
+        | Request::Compile { .. }
+        | Request::Order { .. }
+        | Request::Page(_) => vec![],
         Request::Read { .. } => {
             vec![harness::read(&bytes, start, line, work_need(k + 1, line.len()))]
         }
@@ -112,6 +116,9 @@ fn weight(case: &Case) -> (usize, usize, usize, usize) {
         Request::Compare { table, first, second, .. } => (table, first.len() + second.len(), 0),
         Request::Compile { text } => (&vec![], text.len(), 0),
         Request::Order { tokens, pairs } => (&vec![], tokens.len() + 2 * pairs.len(), 0),
+        Request::Page(page) => {
+            (&page.by_lines.table, page.by_runs.table.len() + page.text.len(), page.rooms.work)
+        }
     };
     let plain = table.chunks(4).map(|r| usize::from(r[0] > 2) + usize::from(r.last() != Some(&0)));
     (table.len() + bytes, plain.sum(), work, case.out_len)
@@ -131,6 +138,10 @@ fn parts(case: &Case) -> (Vec<u8>, u64, Vec<Vec<u8>>) {
         Request::Order { tokens, pairs } => {
             let bytes = pairs.iter().flat_map(|pair| [pair.first, pair.second]).collect();
             (vec![], 0, vec![tokens.clone(), bytes])
+        }
+        Request::Page(Page { by_lines, by_runs, text, .. }) => {
+            let lists = vec![text.clone(), by_runs.table.clone()];
+            (by_lines.table.clone(), by_lines.start, lists)
         }
     }
 }
@@ -163,6 +174,11 @@ fn with(case: &Case, table: Vec<u8>, start: u64, mut lists: Vec<Vec<u8>>) -> Cas
             let pairs = bytes.chunks_exact(2).map(|two| Pair { first: two[0], second: two[1] });
             Request::Order { tokens: lists.remove(0), pairs: pairs.collect() }
         }
+        Request::Page(page) => {
+            let by_runs = Rules { table: lists.remove(1), ..page.by_runs };
+            let (by_lines, text) = (Rules { table, start }, lists.remove(0));
+            Request::Page(Page { by_lines, by_runs, text, rooms: page.rooms })
+        }
     };
     Case { request, ..case.clone() }
 }
@@ -180,6 +196,13 @@ fn candidates(case: &Case) -> Vec<Case> {
             let mut bytes = table.clone();
             bytes.drain(4 * k..4 * k + 4);
             all.push(with(case, bytes, start, lists.clone()));
+        }
+    }
+    if let Request::Page(page) = &case.request {
+        let checked = check(&page.by_runs.table);
+        for (table, start) in checked.map_or(vec![], |t| smaller_tables(&t, page.by_runs.start)) {
+            let page = Page { by_runs: Rules { table, start }, ..page.clone() };
+            all.push(Case { request: Request::Page(page), ..case.clone() });
         }
     }
     // Bytes taken out, in large pieces first.
@@ -262,7 +285,9 @@ fn without(table: &Table, gone: usize, start: u64) -> (Vec<u8>, u64) {
 /// Steps that keep fitting readings fitting: into a child of the start record
 /// with all readings at once, and one iteration less.
 fn in_step(table: &Table, case: &Case, start: u64, lists: &[Vec<u8>], all: &mut Vec<Case>) {
-    if matches!(case.request, Request::Read { .. } | Request::Check { .. }) {
+    let with_readings =
+        !matches!(case.request, Request::Read { .. } | Request::Check { .. } | Request::Page(_));
+    if !with_readings {
         return;
     }
     let Some(k) = usize::try_from(start).ok().filter(|&k| k < table.records.len()) else {
@@ -364,6 +389,7 @@ pub fn show(case: &Case) -> String {
         Request::Compare { .. } => ("compare", &["first", "second"]),
         Request::Compile { .. } => ("compile", &["text"]),
         Request::Order { .. } => ("order", &["tokens", "pairs"]),
+        Request::Page(_) => ("page", &["page", "runs"]),
     };
     let mut text = format!("call    {call}\n");
     if !matches!(call, "compile" | "order") {
@@ -378,7 +404,12 @@ pub fn show(case: &Case) -> String {
     if let Request::Read { work_len, .. } = &case.request {
         text += &format!("work    {work_len} bytes\n");
     }
-    if let Request::Compile { text: bytes } = &case.request {
+    if let Request::Page(Page { by_runs, rooms, .. }) = &case.request {
+        text += &format!("start   {} of the runs' table\nrooms   {rooms:?}\n", by_runs.start);
+    }
+    if let Request::Compile { text: bytes } | Request::Page(Page { text: bytes, .. }) =
+        &case.request
+    {
         text += &format!("as text {}\n", bytes.escape_ascii());
     }
     if !matches!(call, "check" | "compare" | "order") {

@@ -1,13 +1,15 @@
-//! The deepest nestings, the longest readings, token lists and live lines of
-//! each call, on a thread of 1 MiB stack. The answers are known in closed form;
+//! The deepest nestings, the longest readings, token lists, live lines and pages
+//! of each call, on a thread of 1 MiB stack. The answers are known in closed form;
 //! the readings are built without recursion, so the thread's stack is the
 //! library's.
 
 use crate::ffi::Lending;
-use crate::harness::{check, compare, compile, order, read, spell, tokens, Harness};
+use crate::harness::{check, compare, compile, order, page, read, spell, tokens, Harness};
+use crate::pages::{each_class, last};
 use crate::typing;
 use referee::bench::refusal;
 use referee::calls::work_need;
+use referee::page::{Rooms, Who};
 use referee::pairs::{Pair, MOST};
 use referee::random::star_nest;
 use referee::table::{Kind, Letter, Record, Table};
@@ -86,6 +88,28 @@ fn walks(h: &mut Harness, table: &[u8], reading: &[u8], line: &[u8], listed: &[u
     h.put_known(compare(table, start, reading, reading), 0, 0, &[]);
 }
 
+/// Lines by turns of one byte a and of two, so that no two neighbours are alike;
+/// with the tag a the class bytes are as many bytes a.
+fn by_turns(lines: usize) -> Vec<u8> {
+    (0..lines).flat_map(|i| [&b"a\n"[..], b"aa\n"][i % 2]).copied().collect()
+}
+
+/// A line of bytes a with its POSIX reading: as the only one of a page, and as
+/// the class bytes of one.
+fn on_pages(h: &mut Harness, table: &[u8], reading: &[u8], line: &[u8], listed: &[u8]) {
+    let work = work_need(table.len() / 4, line.len()).max(6);
+    let rooms = Rooms { work, reading: reading.len(), first: listed.len(), second: 0 };
+    let class = listed.first().copied().unwrap_or(0);
+    let each = [5, 1, 1, 1, 1, class, 1, 0];
+    h.put_known(page(&last(table), &each_class(), line, rooms), 9, 2, &each);
+    let by_lines = last(&star_nest(LETTERS[0], 2, 0x61).bytes());
+    let rooms = Rooms { work: work.max(work_need(2, 2)), reading: 12, first: 3, second: 6 };
+    let request = || page(&by_lines, &last(table), &by_turns(line.len()), rooms);
+    let short = refusal(11) + reading.len() as u64;
+    h.put_known(request(), reading.len(), reading.len() as u64 / 4, reading);
+    h.put_known(request(), reading.len() - 1, short, &[]);
+}
+
 /// Spell, Tokens and Compare of a reading that doesn't fit.
 fn refused(h: &mut Harness, table: &[u8], reading: &[u8], good: &[u8]) {
     let start = table.len() as u64 / 4 - 1;
@@ -159,9 +183,10 @@ fn stars(h: &mut Harness) {
     let count = low.len() as u64 / 4;
     let need = work_need(LEVELS + 1, 255);
     let short = refusal(11) + low.len() as u64;
-    for table in [&plain, &tagged] {
+    for (table, listed) in [(&plain, &[][..]), (&tagged, &listed)] {
         h.put_known(read(table, start, &line, need), low.len() + 5, count, &low);
         h.put_known(read(table, start, &line, need), low.len() - 1, short, &[]);
+        on_pages(h, table, &low, &line, listed);
     }
 
     // At the end of the spine, three iterations of one byte in place of one
@@ -230,6 +255,7 @@ fn all_calls(h: &mut Harness, table: &Table, reading: &[u8], line: &[u8], listed
     walks(h, &bytes, reading, line, listed);
     let request = read(&bytes, m as u64 - 1, line, work_need(m, line.len()));
     h.put_known(request, reading.len(), reading.len() as u64 / 4, reading);
+    on_pages(h, &bytes, reading, line, listed);
     let last = reading.chunks(4).rposition(|record| record[0] == 1).expect("a byte");
     let mut bad = reading.to_vec();
     bad[4 * last + 1] = 0x60;
@@ -401,9 +427,34 @@ fn live_lines(h: &mut Harness) {
     typed(h, &beside_empties(9), 60, |_| (true, true));
 }
 
+/// Pages of 255 lines by 254 Stars, and their class bytes by as many: lines of 255
+/// and 254 bytes by turns, and lines that are all alike.
+fn long_pages(h: &mut Harness) {
+    h.from("pages of 255 lines by 254 Stars");
+    let by_lines = last(&star_nest(LETTERS[1], LEVELS + 1, 0x61).bytes());
+    let by_runs = last(&star_nest(LETTERS[0], LEVELS + 1, 0).bytes());
+    let long = nest(LEVELS, &[(1, 255)], MODULO);
+    let work = work_need(LEVELS + 1, 255);
+    let rooms = Rooms { work, reading: long.len(), first: 765, second: 762 };
+    let line = |i: usize| [&[0x61; 255][i % 2..], b"\n"].concat();
+    let turns: Vec<u8> = (0..255).flat_map(line).collect();
+    let mut put = |text: &[u8], rooms, number, written: &[u8]| {
+        h.put_known(page(&by_lines, &by_runs, text, rooms), long.len(), number, written);
+    };
+    let of_line = |number, i| Who::Line.names(refusal(number) + i);
+    put(&turns, rooms, long.len() as u64 / 4, &long);
+    put(&turns, Rooms { second: 761, ..rooms }, of_line(11, 1), &[]);
+    put(&turns[..turns.len() - 1], Rooms { work: work - 1, ..rooms }, of_line(10, 0), &[]);
+    put(&[&turns[..], b"a"].concat(), rooms, refusal(20), &[]);
+    let alike = line(1).repeat(255);
+    put(&alike, rooms, LEVELS as u64 + 1, &chain(LEVELS));
+    put(&alike, Rooms { first: 761, ..rooms }, of_line(11, 0), &[]);
+    put(&[&line(1).repeat(254)[..], b"a`"].concat(), rooms, of_line(8, 254), &[]);
+}
+
 pub fn run() {
     type Part = fn(&mut Harness);
-    let parts: [(&str, Part); 7] = [
+    let parts: [(&str, Part); 8] = [
         ("stack of 1 MiB, nests of Stars", stars),
         ("stack of 1 MiB, readings of over 16 MB", millions),
         ("stack of 1 MiB, combs of Or and Seq", combs),
@@ -411,6 +462,7 @@ pub fn run() {
         ("stack of 1 MiB, texts of up to 4,097 bytes", parentheses),
         ("stack of 1 MiB, lists of 4,000,000 tokens", token_lists),
         ("stack of 1 MiB, live lines", live_lines),
+        ("stack of 1 MiB, pages", long_pages),
     ];
     for (name, part) in parts {
         let thread = std::thread::Builder::new().stack_size(STACK).spawn(move || {

@@ -5,12 +5,12 @@ use native.Mathlib.Omega.{arith}
 use Rattle.report.specs.Report.{tokenLines}
 use Rattle.printing.specs.Writes.{Wrote}
 use Rattle.printing.proofs.Writes.{wrote-length, wrote-none}
-use Rattle.report.proofs.TokenLines.{tokensOf, token-room, lines-more, lines-all}
+use Rattle.report.proofs.TokenLines.{firstTokens, token-room, lines-more, lines-all}
 use Rattle.report.proofs.put_tokens.Statement.{statement}
 use Rattle.report.proofs.put_tokens.Tie as tie
 
 abbrev Inv-loop : tie.InvT-loop
-Inv-loop out₀ at tokens count next₀ i₀ out next i = (i ≤ count) × (next ≤ at + 12 * i) × Wrote out₀ out at next (tokenLines (tokensOf i tokens))
+Inv-loop out₀ at tokens count next₀ i₀ out next i = (i ≤ count) × (next ≤ at + 12 * i) × Wrote out₀ out at next (tokenLines (firstTokens i tokens))
 
 abbrev μ-loop : tie.MeasureT-loop
 μ-loop out₀ at tokens count next₀ i₀ out next i = count - i

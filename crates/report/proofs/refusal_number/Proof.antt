@@ -9,7 +9,11 @@ numbers-of-requires : tie.Need-numbers-of-requires
 numbers-of-requires c κs = search needs
 
 returns : tie.Need-returns
-returns c = λ n d e. let z : refuses (c .numbers-of .result .number) (c .numbers-of .result .detail) ≡ refuses n d = c .numbers-of .ensures ∙ e in cc
+returns c =
+    λ n d e.
+    let z : refuses (c .numbers-of .result .number) (c .numbers-of .result .detail) ≡ refuses n d = c .numbers-of .ensures ∙ e in
+    let same : c .numbers-of .result .number ≡ n = cc in
+    same
 
 pub refusal-number-spec : {M : Type 1} → statement M
 refusal-number-spec = tie.close (tie.spec numbers-of-requires returns)

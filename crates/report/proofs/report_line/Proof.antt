@@ -1,39 +1,52 @@
--- `report::report_line` meets its contract: what is printed for the reading that Read gave, or the refusal. Assumes nothing.
+-- `report::report_line` meets its contract: the lines of the tokens that Lex gave after the line's own, or the refusal. Assumes nothing.
+use mathlib.Core.List.{List}
 use native.Mathlib.Omega.{arith}
-use mathlib.Core.Path.{sym, ap}
 use borrow.Author.Needs.{needs}
 use lib.ListN.{length}
-use lib.Seq.{length-take-le}
-use Rattle.table.specs.Answers.{says}
-use Rattle.matcher.specs.Calls.{PosixWritten}
-use Rattle.report.proofs.Reports.{reading-room, line-reading, line-read, line-refused}
+use Rattle.tokens.specs.Tokens.{Token}
+use Rattle.lexer.specs.Lexing.{tokensOf}
+use Rattle.lexer.proofs.Lexing.{Lexed, lexed}
+use Rattle.printing.proofs.Writes.{wrote-length}
+use Rattle.report.proofs.Reports.{line-refused, line-read}
 use Rattle.report.proofs.report_line.Statement.{statement}
 use Rattle.report.proofs.report_line.Tie as tie
 
-read-requires : tie.Need-read-requires
-read-requires c κs = search needs
+abbrev start : tie.After-lex → tie.Start
+start c = c .before .before .before .before .before .before .before .before .before .before
 
-enum-known-records : tie.Need-enum-known-records
-enum-known-records c = search needs
+-- the call that gave a token count
+abbrev call : tie.After-count → tie.After-lex
+call c = c .before .before .before .before .before .before .before .before
 
--- the reading that Read gave
-posix :
-    (c : tie.After-records)
-    → PosixWritten (c .before .before .before .before .before .before .before .before .before .before .before .before .before .before .before .args .table .now) (c .before .before .before .before .before .before .before .before .before .before .before .before .before .before .before .args .start) (c .before .before .before .before .before .before .before .before .before .before .before .before .before .before .before .args .line .now) (c .before .before .before .before .before .before .before .before .before .before .before .before .before .before .before .args .reading .now)
-    (c .before .before .before .before .before .before .read .last .1 .1 .1 .1 .0) (c .records .given .0 .0)
-posix c = c .before .before .before .before .before .before .read .ensures .1 .1 .1 .0 (c .records .given .0 .0) (ap says (c .records .given .1))
+-- the line's tokens, which stand in front of the token buffer
+abbrev listed : tie.After-count → List Token
+listed c = tokensOf (start (call c) .args .table .now) (start (call c) .args .start) (start (call c) .args .line .now)
 
-mul-end : tie.Need-mul-end
-mul-end c = omega (arith, reading-room (posix (c .before)), c .before .before .before .before .before .before .before .before .before .before .before .before .before .before .before .before .pre .1 .0, c .before .before .before .before .before .before .before .read .kept .1 .1 .1 .1 .0)
+listing :
+    (c : tie.After-count)
+    → Lexed (start (call c) .args .table .now) (start (call c) .args .start) (start (call c) .args .line .now) (start (call c) .args .tokens .now)
+    (call c .lex .last .1 .1 .1 .1 .1 .0) (c .count .given .0 .0)
+listing c =
+    let y = start (call c) in
+    lexed (y .args .table .now) (y .args .start) (y .args .line .now) (length (y .args .work .now)) (length (y .args .reading .now)) (y .args .tokens .now)
+    (call c .lex .ensures .0) (c .count .given .1) (call c .lex .ensures .1)
 
-slice-reshare-prefix-report-reading : tie.Need-slice-reshare-prefix-report-reading
-slice-reshare-prefix-report-reading c = reading-room (posix (c .before))
+lex-requires : tie.Need-lex-requires
+lex-requires c κs = search needs
 
-slice-aggregate-report-reading : tie.Need-slice-aggregate-report-reading
-slice-aggregate-report-reading c = sym (length-take-le _ _ (reading-room (posix (c .before .before))))
+enum-known-count : tie.Need-enum-known-count
+enum-known-count c = search needs
 
-report-reading-requires : tie.Need-report-reading-requires
-report-reading-requires c κs = (line-reading (posix (c .before .before .before .before)) (length (c .before .before .before .before .before .before .before .before .before .before .before .before .before .before .before .before .before .before .before .args .work .now)) (length (c .before .before .before .before .before .before .before .before .before .before .before .before .before .before .before .before .before .before .before .args .reading .now)) (c .before .before .before .before .before .before .before .before .before .before .read .ensures .0) (c .before .before .before .before .records .given .1), (c .before .before .before .before .before .before .before .before .before .before .before .before .before .before .before .before .before .before .before .pre .1 .1 .0, c .before .before .before .before .before .before .before .before .before .before .before .before .before .before .before .before .before .before .before .pre .1 .1 .1))
+put-ok-requires : tie.Need-put-ok-requires
+put-ok-requires c κs = search needs
+
+put-tokens-requires : tie.Need-put-tokens-requires
+put-tokens-requires c κs =
+    let d : tie.After-count = c .before .before .before .before .before .before .before in
+    let x = listing d in (
+      omega (arith, x .room, call d .lex .kept .1 .1 .1 .1 .1 .0),
+      omega (arith, x .few, start (call d) .pre .1 .1 .1, c .before .before .before .before .put-ok .ensures .0, wrote-length (c .before .before .before .before .put-ok .ensures .1)),
+    )
 
 enum-known-why : tie.Need-enum-known-why
 enum-known-why c = search needs
@@ -57,7 +70,13 @@ same-length-4 : tie.Need-same-length-4
 same-length-4 c = search needs
 
 returns : tie.Need-returns
-returns c = line-read (posix (c .before .before .before .before .before .before .before .before .before)) (length (c .before .before .before .before .before .before .before .before .before .before .before .before .before .before .before .before .before .before .before .before .before .before .before .before .args .work .now)) (length (c .before .before .before .before .before .before .before .before .before .before .before .before .before .before .before .before .before .before .before .before .before .before .before .before .args .reading .now)) (c .before .before .before .before .before .before .before .before .before .before .before .before .before .before .before .before .before .before .before .before .before .before .before .before .args .number) (c .before .before .before .before .before .before .before .before .before .before .before .before .before .before .before .before .before .before .before .before .before .before .before .before .pre .0) (c .before .before .before .before .before .before .before .before .before .before .before .before .before .before .before .before .before .before .before .before .before .before .before .before .pre .1 .0) (c .before .before .before .before .before .before .before .before .before .before .before .before .before .before .before .read .ensures .0) (c .before .before .before .before .before .before .before .before .before .records .given .1) (c .before .before .before .before .report-reading .ensures .0) (c .before .before .before .before .report-reading .ensures .1) (c .before .before .before .before .before .before .before .before .before .before .before .before .before .before .before .before .before .before .before .before .before .before .before .before .pre .1 .1 .1)
+returns c =
+    let d : tie.After-count = c .before .before .before .before .before .before .before .before .before .before in
+    let x = listing d in
+    let y = start (call d) in
+    line-read _ _ _ (y .args .number) (y .pre .0) (y .pre .1 .0) (y .pre .1 .1 .0) (call d .lex .ensures .0) (d .count .given .1) (x .counted) (c .before .before .before .before .before .before .before .put-ok .ensures .1)
+    (c .before .before .put-tokens .ensures .1 (listed d) (x .front))
+    (omega (arith, x .few, c .before .before .before .before .before .before .before .put-ok .ensures .0, c .before .before .put-tokens .ensures .0)) (y .pre .1 .1 .1)
 
 same-length-5 : tie.Need-same-length-5
 same-length-5 c = search needs
@@ -68,19 +87,24 @@ same-length-6 c = search needs
 same-length-7 : tie.Need-same-length-7
 same-length-7 c = search needs
 
+same-length-8 : tie.Need-same-length-8
+same-length-8 c = search needs
+
 returns-2 : tie.Need-returns-2
-returns-2 c = line-refused (c .before .before .before .before .before .before .before .before .before .before .before .before .before .before .before .before .before .before .before .before .before .args .table .now) (c .before .before .before .before .before .before .before .before .before .before .before .before .before .before .before .before .before .before .before .before .before .args .start) (c .before .before .before .before .before .before .before .before .before .before .before .before .before .before .before .before .before .before .before .before .before .args .line .now) (length (c .before .before .before .before .before .before .before .before .before .before .before .before .before .before .before .before .before .before .before .before .before .args .work .now)) (length (c .before .before .before .before .before .before .before .before .before .before .before .before .before .before .before .before .before .before .before .before .before .args .reading .now)) (c .before .before .before .before .before .before .before .before .before .before .before .before .before .before .before .before .before .before .before .before .before .args .number) (c .before .before .before .before .before .before .before .before .before .before .before .before .before .before .before .before .before .before .before .before .before .pre .0) (c .before .before .before .before .before .before .before .before .before .before .before .before .before .before .before .before .before .before .before .before .before .pre .1 .0) (c .before .before .before .before .before .before .before .before .before .before .before .before .read .ensures .0) (c .before .before .before .before .before .before .why .given .1) (c .before .before .before .refusal-number .ensures) (c .before .before .put-refused .ensures .1) (c .before .before .put-refused .ensures .0) (c .before .before .before .before .before .before .before .before .before .before .before .before .before .before .before .before .before .before .before .before .before .pre .1 .1 .1)
+returns-2 c =
+    let d : tie.After-lex = c .before .before .before .before .before .before .before .before .before .before .before .before .before .before in
+    let y = start d in
+    line-refused _ _ _ (y .args .number) (y .pre .0) (y .pre .1 .0) (y .pre .1 .1 .0) (d .lex .ensures .0) (c .before .before .before .before .before .before .why .given .1)
+    (c .before .before .before .refusal-number .ensures) (c .before .before .put-refused .ensures .1) (c .before .before .put-refused .ensures .0) (y .pre .1 .1 .1)
 
 pub report-line-spec : {M : Type 1} → statement M
 report-line-spec =
     tie.close
     (tie.spec
-    read-requires
-    enum-known-records
-    mul-end
-    slice-reshare-prefix-report-reading
-    slice-aggregate-report-reading
-    report-reading-requires
+    lex-requires
+    enum-known-count
+    put-ok-requires
+    put-tokens-requires
     enum-known-why
     refusal-number-requires
     put-refused-requires
@@ -92,4 +116,5 @@ report-line-spec =
     same-length-5
     same-length-6
     same-length-7
+    same-length-8
     returns-2)

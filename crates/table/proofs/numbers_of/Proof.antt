@@ -58,6 +58,9 @@ enum-told-10 c = c .match .keys17
 enum-told-11 : tie.Need-enum-told-11
 enum-told-11 c = c .match .keys18
 
+enum-told-12 : tie.Need-enum-told-12
+enum-told-12 c = c .match .keys19
+
 returns : tie.Need-returns
 returns c = ap refusal (sym (c .enum-told .given .1))
 
@@ -112,6 +115,9 @@ returns-17 c = ap refusal (sym (c .enum-told10 .given .1))
 returns-18 : tie.Need-returns-18
 returns-18 c = ap refusal (sym (c .enum-told11 .given .1))
 
+returns-19 : tie.Need-returns-19
+returns-19 c = ap refusal (sym (c .enum-told12 .given .1))
+
 pub numbers-of-spec : {M : Type 1} → statement M
 numbers-of-spec =
     tie.close
@@ -134,6 +140,7 @@ numbers-of-spec =
     enum-told-9
     enum-told-10
     enum-told-11
+    enum-told-12
     returns
     returns-2
     returns-3
@@ -151,4 +158,5 @@ numbers-of-spec =
     returns-15
     returns-16
     returns-17
-    returns-18)
+    returns-18
+    returns-19)

@@ -1,0 +1,2 @@
+-- What the call that cuts a line into its tokens says and leaves.
+pub mod Lexing

@@ -1,0 +1,13 @@
+-- The page's laws, from two lines to the call.
+pub mod Likeness
+pub mod Runs
+pub mod Division
+pub mod Classes
+pub mod Meaning
+pub mod Cases
+-- What only the functions' proofs go by.
+mod Parity
+mod Names
+mod Taking
+mod Going
+mod Answering
