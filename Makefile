@@ -104,7 +104,7 @@ demo:
 
 # The examples in C, compiled without a warning, and what they must print.
 example: $(LIB) $(BUILD)/console | $(BUILD)
-	@for name in commission rules parts lap; do $(CC) -std=c99 $(CFLAGS) examples/$$name.c $(LIB) -o $(BUILD)/$$name || exit 1; done
+	@for name in commission rules parts lap sort; do $(CC) -std=c99 $(CFLAGS) examples/$$name.c $(LIB) -o $(BUILD)/$$name || exit 1; done
 	@bash tests/example.sh $(BUILD)
 
 # The test console on a pseudo-terminal: what it shows after each key, and the terminal after each end.

@@ -5,7 +5,7 @@
  *     cc commission.c $(pkg-config --cflags --libs trace) -o commission
  *     ./commission <trace.txt
  *
- * It makes every call but those on live lines and pages. Exit status: 0 if every line was shown, 1 if one was not, 2 if the tool itself could not go on.
+ * It makes every call but those on live lines, pages and alternatives. Exit status: 0 if every line was shown, 1 if one was not, 2 if the tool itself could not go on.
  */
 #define _POSIX_C_SOURCE 200809L /* getline */
 #include <stdio.h>

@@ -2,7 +2,7 @@
  * Trace line reader: cuts a line into named tokens by a table of regular expressions, by the POSIX rule. The table is written by hand, or made
  * from a text by trace_compile. trace_order says whether the tokens' names stand in the order that pairs of names ask for. A live line is one that
  * is still being typed: after each byte trace_live_add says whether it has a reading, and whether it can still get one. trace_page reads the lines of
- * a page by one table, and their classes by a second one.
+ * a page by one table, and their classes by a second one. trace_apart says whether the two alternatives of an Or record are seen to share no line.
  *
  * Every call returns one 64-bit number: its result, or a refusal's number times 2^32 plus the refusal's detail, in trace_page plus the one that is
  * named times 2^56. Take it apart with trace_is_refused, trace_refusal, trace_detail and trace_who. A result is below 2^32, but for that of
@@ -10,11 +10,11 @@
  *
  * What the caller owes: a pointer with a length above 0 points to that many bytes, or pairs (one with length 0 may be null, or any address),
  * a pointer to a trace_live points to one, and what a call writes to (work, out, a trace_live, and in trace_page reading, first and second)
- * overlaps no other argument. Nothing else: every text, table, start number, line, page, live line, reading, token list, pair and length is taken,
- * and the call comes to an end with its result or a refusal. The calls keep no state and allocate nothing; several threads may call at once on
+ * overlaps no other argument. Nothing else: every text, table, start or record number, line, page, live line, reading, token list, pair and length is
+ * taken, and the call comes to an end with its result or a refusal. The calls keep no state and allocate nothing; several threads may call at once on
  * buffers and live lines of their own. A call needs less than 1 MiB of stack.
  *
- * The functions defined here are in no library: they are compiled into the caller, C99 or C++. The eleven calls are in libtrace.a and
+ * The functions defined here are in no library: they are compiled into the caller, C99 or C++. The twelve calls are in libtrace.a and
  * libtrace.so:
  *     cc tool.c $(pkg-config --cflags --libs trace)
  *
@@ -31,9 +31,9 @@
 extern "C" {
 #endif
 
-/* The version, as numbers and as text ("3.2.0"). Another major number says that a format or a call's result has changed. */
+/* The version, as numbers and as text ("3.3.0"). Another major number says that a format or a call's result has changed. */
 #define TRACE_VERSION_MAJOR 3
-#define TRACE_VERSION_MINOR 2
+#define TRACE_VERSION_MINOR 3
 #define TRACE_VERSION_PATCH 0
 #define TRACE_TEXT_OF(macro) TRACE_TEXT(macro)
 #define TRACE_TEXT(word) #word
@@ -100,7 +100,7 @@ extern "C" {
 #define TRACE_REFUSED_LINE 7      /* line over 255 bytes, or Add to one of 255 */
 #define TRACE_REFUSED_NO_READING 8 /* the start record does not spell the line */
 /* The caller's. */
-#define TRACE_REFUSED_START 9     /* start number not below the record count */
+#define TRACE_REFUSED_START 9     /* start number, or the record number of trace_apart, not below the record count */
 #define TRACE_REFUSED_WORK 10     /* work area shorter than trace_work_size */
 #define TRACE_REFUSED_BUFFER 11   /* output buffer too short; the detail is the bytes needed */
 /* The reading's. In trace_compare the detail of 12 is 0 for the first reading and 1 for the second. */
@@ -143,7 +143,7 @@ static inline const char *trace_refusal_text(uint32_t refusal)
     case TRACE_REFUSED_NAMED: return "a record of the table names a child that is named already";
     case TRACE_REFUSED_LINE: return "the line is over 255 bytes long";
     case TRACE_REFUSED_NO_READING: return "the start record does not spell the line";
-    case TRACE_REFUSED_START: return "the table has no record with the start number";
+    case TRACE_REFUSED_START: return "the table has no record with this number";
     case TRACE_REFUSED_WORK: return "the work area is too short";
     case TRACE_REFUSED_BUFFER: return "the output buffer is too short";
     case TRACE_REFUSED_UNFIT: return "the bytes are no reading of the start record";
@@ -295,6 +295,17 @@ uint64_t trace_page(const uint8_t *line_table, size_t line_table_len, uint64_t l
                     uint64_t page_start, const uint8_t *page, size_t page_len, uint8_t *work, size_t work_len, uint8_t *reading,
                     size_t reading_len, uint8_t *first, size_t first_len, uint8_t *second, size_t second_len, uint8_t *out,
                     size_t out_len);
+
+/*
+ * Says whether the two alternatives of an Or record, its a and its b, are seen to share no line, by the bytes with which their lines start and end.
+ * Result: 1 if not both spell the empty line, and either no byte starts lines of both or no byte ends lines of both; otherwise 0, and so for a record
+ * that is no Or. Refusals, in this order: 1 to 6, 9 for a record number that is not below the record count.
+ *
+ * 1 means that no line, of any length, is spelled by both. Then a and b may be exchanged: the table passes as before, and by every start number the
+ * same lines are read and give the same tokens, however deep the Or record stands. 0 says nothing: there may be a line that both spell, or none. A byte
+ * that starts lines of a Seq's first part counts for the Seq, although its second part may spell no line at all; and so at the end.
+ */
+uint64_t trace_apart(const uint8_t *table, size_t table_len, uint64_t record);
 
 #ifdef __cplusplus
 }

@@ -1,8 +1,9 @@
 /*
- * Every refusal of Read, Spell, Compare, Tokens, Compile, Order, Page and the calls on a live line at its edge, with the answers that documents 01 and
- * 02 state; buffers and live lines are compared byte for byte. Readings with every wrong length and record number. Other at its bounds. Empty tagged
- * parts, which are no tokens. Names that must come first. Live lines typed and filled by hand, and the places of their fields. Pages of every kind of
- * line, in buffers of exactly the sizes that they need. And null pointers with length 0, in all eleven calls.
+ * Every refusal of Read, Spell, Compare, Tokens, Compile, Order, Page, Apart and the calls on a live line at its edge, with the answers that documents
+ * 01 and 02 state; buffers and live lines are compared byte for byte. Readings with every wrong length and record number. Other at its bounds. Empty
+ * tagged parts, which are no tokens. Names that must come first. Live lines typed and filled by hand, and the places of their fields. Pages of every
+ * kind of line, in buffers of exactly the sizes that they need. Alternatives that are seen to share no line and others, and tables with them exchanged.
+ * And null pointers with length 0, in all twelve calls.
  * Prints the number of answers, or the first one that is wrong.
  */
 #include <stdio.h>
@@ -884,6 +885,233 @@ static void pages(void)
     page_nulls(TEXT("ab\nb"));
 }
 
+/* Alternatives: what is said of a record. */
+static void apart(const char *name, Bytes table, uint64_t record, uint64_t want)
+{
+    expect(name, trace_apart(table.at, table.length, record), want);
+}
+
+/* What is said of the last bar of a text, and of that bar with its sides exchanged. */
+static void apart_text(const char *text, uint64_t want)
+{
+    uint8_t table[TRACE_MAX_TABLE];
+    Rules made = compiled((Bytes){(const uint8_t *)text, strlen(text)}, table);
+    uint8_t *last = table + TRACE_TABLE_RECORD * made.start, a = last[1];
+    apart(text, made.table, made.start, want);
+    last[1] = last[2], last[2] = a;
+    apart(text, made.table, made.start, want);
+}
+
+/* Texts whose last bar has two sides that are seen to share no line, and others. */
+static void apart_texts(void)
+{
+    static const char *const seen[] = {
+        "a|b", "lift|brake", "ab|ac", "a|()", "aa*|()", "a*|bb*", "a*b|c", "a*b|bc", "[0-9]*C|[0-9]*F", "[a-b]|[c-d]", "a*b*c|a*b*d", "(a|b)|(c|d)",
+        "a*b|b*c", "(a|())b|(c|())d", "ab*|ba*", "(ab)*a|b", "(ab)*ac|(ab)*", "(a|ab)|bc", "(a#001|b#001)#002|c#001", "(a*)*|(b*)*c", "[0-9][0-9]*|-",
+        "(()|a)b*c|()", "a(b|())|c(b|())", "(b|())a|(b|())c", "()()|a",
+    };
+    static const char *const unknown[] = {
+        "a|a", "(brake)#001|([a-z]*)#002", "()|()", "a*|b*", "a*|()", "(a|())|(b|())", "a*b|b", "[a-c]|[c-d]", "[0-9]|[0-9][0-9]", "axb|ayb", "a|ab*",
+        "aa|a", "ab|ab", "(ab)*a|a", "a*b*|b", "(a|b)|(b|c)", "a(b|())|ab", "(b|())a|b*a", "a()|a", "()a|a()", "(a*)*|(b*)*", "[ -~]*x|[a-z]x",
+        "a|(()|a)", "()()|()*",
+    };
+    for (size_t i = 0; i < sizeof seen / sizeof *seen; i++)
+        apart_text(seen[i], 1);
+    for (size_t i = 0; i < sizeof unknown / sizeof *unknown; i++)
+        apart_text(unknown[i], 0);
+}
+
+/* Every byte as the one that is shared, alone, at the start and at the end; and the bytes beside it. */
+static void apart_bytes(void)
+{
+    for (int i = 0; i < 256; i++) {
+        uint8_t c = (uint8_t)i, next = (uint8_t)(i + 1), far = (uint8_t)(i + 128);
+        apart("a byte twice", BYTES(2, c, c, 0, 2, c, c, 0, 3, 0, 1, 0), 2, 0);
+        apart("two bytes", BYTES(2, c, c, 0, 2, next, next, 0, 3, 0, 1, 0), 2, 1);
+        apart("a byte and one with another highest bit", BYTES(2, c, c, 0, 2, far, far, 0, 3, 1, 0, 0), 2, 1);
+        apart("a byte and all others", BYTES(2, c, c, 0, 6, c, c, 0, 3, 0, 1, 0), 2, 1);
+        apart("a byte and all bytes", BYTES(2, c, c, 0, 2, 0, 255, 0, 3, 0, 1, 0), 2, 0);
+        apart("bytes up to one, and from there", BYTES(2, 0, c, 0, 2, c, 255, 0, 3, 0, 1, 0), 2, 0);
+        apart("bytes up to one, and above it", BYTES(2, 0, c, 0, 6, 0, c, 0, 3, 0, 1, 0), 2, 1);
+        /* cx and cy, xc and yc, cc and c: the bytes x and y are others than c, and than each other */
+        uint8_t x = (uint8_t)(i + 2);
+        apart("the first byte alone", BYTES(2, c, c, 0, 2, next, next, 0, 4, 0, 1, 0, 2, c, c, 0, 2, x, x, 0, 4, 3, 4, 0, 3, 2, 5, 0), 6, 1);
+        apart("the last byte alone", BYTES(2, c, c, 0, 2, next, next, 0, 4, 1, 0, 0, 2, c, c, 0, 2, x, x, 0, 4, 4, 3, 0, 3, 2, 5, 0), 6, 1);
+        apart("the first byte and the last", BYTES(2, c, c, 0, 2, c, c, 0, 4, 0, 1, 0, 2, c, c, 0, 3, 2, 3, 0), 4, 0);
+    }
+}
+
+/* Nothing, and Seqs with a side that spells nothing: their bytes count where the near side has them. */
+static void apart_nothing(void)
+{
+    apart("Nothing twice", BYTES(0, 0, 0, 0, 0, 0, 0, 0, 3, 0, 1, 0), 2, 1);
+    apart("Nothing and Empty", BYTES(0, 0, 0, 0, 1, 0, 0, 0, 3, 0, 1, 0), 2, 1);
+    apart("Empty twice", BYTES(1, 0, 0, 0, 1, 0, 0, 0, 3, 0, 1, 0), 2, 0);
+    apart("Nothing and a", BYTES(0, 0, 0, 0, 2, 'a', 'a', 0, 3, 0, 1, 0), 2, 1);
+    apart("an Other of no byte, and all bytes", BYTES(6, 0, 255, 0, 2, 0, 255, 0, 3, 0, 1, 0), 2, 1);
+    apart("Nothing, any number of times, and Empty", BYTES(0, 0, 0, 0, 5, 0, 0, 0, 1, 0, 0, 0, 3, 1, 2, 0), 3, 0);
+    apart("an Other of no byte, any number of times, and a", BYTES(6, 0, 255, 0, 5, 0, 0, 0, 2, 'a', 'a', 0, 3, 1, 2, 0), 3, 1);
+    /* the last byte of a and then Nothing is none, and so is the first one of Nothing and then a */
+    apart("a, then Nothing, and a", BYTES(2, 'a', 'a', 0, 0, 0, 0, 0, 4, 0, 1, 0, 2, 'a', 'a', 0, 3, 2, 3, 0), 4, 1);
+    apart("Nothing, then a, and a", BYTES(2, 'a', 'a', 0, 0, 0, 0, 0, 4, 1, 0, 0, 2, 'a', 'a', 0, 3, 2, 3, 0), 4, 1);
+    apart("a, then Nothing, then a, and a",
+          BYTES(2, 'a', 'a', 0, 0, 0, 0, 0, 4, 0, 1, 0, 2, 'a', 'a', 0, 4, 2, 3, 0, 2, 'a', 'a', 0, 3, 4, 5, 0), 6, 0);
+    apart("a, then Nothing, then b, and a",
+          BYTES(2, 'a', 'a', 0, 0, 0, 0, 0, 4, 0, 1, 0, 2, 'b', 'b', 0, 4, 2, 3, 0, 2, 'a', 'a', 0, 3, 4, 5, 0), 6, 1);
+    apart("a*, then Nothing, then a*, and a",
+          BYTES(2, 'a', 'a', 0, 5, 0, 0, 0, 0, 0, 0, 0, 4, 1, 2, 0, 2, 'a', 'a', 0, 5, 4, 0, 0, 4, 3, 5, 0, 2, 'a', 'a', 0, 3, 6, 7, 0), 8, 0);
+}
+
+/* Tables of 1,020 bytes. Each Or of a comb of 127 with the same letter, and with other ones; and the deepest records in an alternative. */
+static void apart_longest(Bytes comb)
+{
+    uint8_t table[TRACE_MAX_TABLE];
+    for (uint64_t k = 0; k < 255; k++)
+        apart("1,020 bytes, one letter", comb, k, 0);
+    memcpy(table, comb.at, sizeof table);
+    for (int letters = 0; letters < 2; letters++) {
+        for (size_t k = 0; k < 255; k++)
+            if (table[TRACE_TABLE_RECORD * k] == TRACE_RANGE)
+                table[TRACE_TABLE_RECORD * k + 1] = table[TRACE_TABLE_RECORD * k + 2] = (uint8_t)(letters ? k : 255 - k);
+        for (uint64_t k = 0; k < 255; k++)
+            apart("1,020 bytes, other letters", (Bytes){table, sizeof table}, k, k > 0 && k % 2 == 0);
+    }
+    for (size_t length = 0; length < sizeof table; length += 17)
+        apart("a part of it", (Bytes){table, length}, 0, length % 4 || length == 0 ? REFUSED(1, 0) : 0);
+    /* a under 252 Stars, or in the middle of 63 Seqs on each side, and one more letter */
+    for (int seqs = 0; seqs < 2; seqs++)
+        for (int c = 'a'; c <= 'b'; c++) {
+            uint8_t *at = table;
+            memcpy(at, BYTES(2, 'a', 'a', 0).at, 4), at += 4;
+            for (int k = 1; k <= 252; k += seqs ? 2 : 1) {
+                uint8_t star[] = {5, (uint8_t)(k - 1), 0, 0}, letter[] = {1, 0, 0, 0}, seq[] = {4, (uint8_t)(k - 1), (uint8_t)k, 0};
+                if (seqs && k % 4 == 1)
+                    seq[1] = (uint8_t)k, seq[2] = (uint8_t)(k - 1);
+                memcpy(at, seqs ? letter : star, 4), at += 4;
+                if (seqs)
+                    memcpy(at, seq, 4), at += 4;
+            }
+            memcpy(at, BYTES(2, (uint8_t)c, (uint8_t)c, 0).at, 4), at += 4;
+            memcpy(at, BYTES(3, 252, 253, 0).at, 4), at += 4;
+            apart("the deepest records", (Bytes){table, sizeof table}, 254, c == 'b');
+            apart("the deepest records, from below", (Bytes){table, sizeof table}, 252, 0);
+            apart("1,020 bytes, 9", (Bytes){table, sizeof table}, 255, REFUSED(9, 0));
+            apart("1,020 bytes, 256 more", (Bytes){table, sizeof table}, 256 + 254, REFUSED(9, 0));
+        }
+}
+
+/* Refusals: 1 to 6, then 9, whatever the record is. The last record of a table, the one behind it, and numbers of which a part is a record's. */
+static void apart_refused(Bytes t1)
+{
+    static const uint64_t outside[] = {
+        10, 11, 255, 256, 256 + 7, 1ULL << 32, (1ULL << 32) + 7, (1ULL << 62) + 7, 1ULL << 63, (1ULL << 63) + 7, UINT64_MAX - 1, UINT64_MAX};
+    static const struct { size_t at; uint8_t byte, refusal, record; } faults[] = {
+        {0, 7, 2, 0}, {36, 255, 2, 9}, {38, 1, 3, 9}, {1, 98, 4, 0}, {33, 8, 5, 8}, {37, 9, 5, 9}, {30, 0, 6, 7}, {33, 6, 6, 8}};
+    each_wrong(apart);
+    for (uint64_t k = 0; k < 10; k++)
+        apart("T1", t1, k, k == 7 || k == 8);
+    for (size_t i = 0; i < sizeof outside / sizeof *outside; i++)
+        apart("T1, 9", t1, outside[i], REFUSED(9, 0));
+    for (size_t i = 0; i < sizeof faults / sizeof *faults; i++) {
+        uint8_t table[40];
+        memcpy(table, t1.at, sizeof table);
+        table[faults[i].at] = faults[i].byte;
+        for (uint64_t k = 0; k < 12; k++)
+            apart("T1 with a fault", (Bytes){table, sizeof table}, k, REFUSED(faults[i].refusal, faults[i].record));
+        apart("T1 with a fault, before 9", (Bytes){table, sizeof table}, 1ULL << 63, REFUSED(faults[i].refusal, faults[i].record));
+    }
+}
+
+/* The table with a and b of the record exchanged. */
+static Bytes exchanged(Bytes table, size_t record, uint8_t *to)
+{
+    memcpy(to, table.at, table.length);
+    to[TRACE_TABLE_RECORD * record + 1] = table.at[TRACE_TABLE_RECORD * record + 2];
+    to[TRACE_TABLE_RECORD * record + 2] = table.at[TRACE_TABLE_RECORD * record + 1];
+    return (Bytes){to, table.length};
+}
+
+/* A line by two tables: Read answers the same with every work area and buffer, and what it wrote has the same tokens. */
+static void same_tokens(Bytes one, Bytes two, uint64_t start, Bytes line)
+{
+    static uint8_t work[20000], reading[2][4000], listed[2][800];
+    size_t records = one.length / TRACE_TABLE_RECORD, need = trace_work_size(records, line.length), most = trace_reading_size(records, line.length);
+    for (size_t room = 0; room <= most; room++)
+        for (size_t less = 0; less < 2; less++) {
+            uint64_t got = trace_read(two.at, two.length, start, line.at, line.length, work, need - less, reading[1], room);
+            expect("exchanged, Read", got, trace_read(one.at, one.length, start, line.at, line.length, work, need - less, reading[0], room));
+            if (trace_is_refused(got))
+                continue;
+            Bytes list = {listed[0], sizeof listed[0]};
+            uint64_t count = trace_tokens(one.at, one.length, start, reading[0], TRACE_READING_RECORD * got, listed[0], list.length);
+            list.length = TRACE_TOKEN * count;
+            tokens("exchanged, Tokens", two, start, (Bytes){reading[1], TRACE_READING_RECORD * got}, list.length, count, list);
+        }
+}
+
+/* Every record of a rule that is seen to be apart, exchanged by itself and with those before it. The lines are parted by blanks; the first is empty. */
+static void apart_exchanged(Bytes text, const char *lines)
+{
+    uint8_t table[TRACE_MAX_TABLE], one[TRACE_MAX_TABLE], all[TRACE_MAX_TABLE];
+    Rules made = compiled(text, table);
+    memcpy(all, table, made.table.length);
+    for (uint64_t k = 0; k <= made.start; k++) {
+        Bytes whole = {all, made.table.length};
+        if (trace_apart(table, made.table.length, k) != 1)
+            continue;
+        Bytes by_itself = exchanged(made.table, k, one);
+        expect("exchanged, Check", trace_check(one, by_itself.length), made.start + 1);
+        expect("exchanged, Apart", trace_apart(one, by_itself.length, k), 1);
+        all[TRACE_TABLE_RECORD * k + 1] = one[TRACE_TABLE_RECORD * k + 1], all[TRACE_TABLE_RECORD * k + 2] = one[TRACE_TABLE_RECORD * k + 2];
+        for (const char *at = lines;; at++) {
+            Bytes line = {(const uint8_t *)at, strcspn(at, " ")};
+            for (uint64_t start = 0; start <= made.start; start++) {
+                same_tokens(made.table, by_itself, start, line);
+                same_tokens(made.table, whole, start, line);
+            }
+            at += line.length;
+            if (*at == '\0')
+                break;
+        }
+    }
+}
+
+/* The worked example of docs/FORMATS.md, and other tables with alternatives exchanged. */
+static void alternatives(Bytes t1, Bytes t2, Bytes comb)
+{
+    apart_texts();
+    apart_bytes();
+    apart_nothing();
+    apart_longest(comb);
+    apart_refused(t1);
+
+    uint8_t once[TRACE_MAX_TABLE], twice[TRACE_MAX_TABLE], table[TRACE_MAX_TABLE];
+    for (uint64_t k = 0; k < 9; k++)
+        apart("(a|())(b|ab)", t2, k, k == 2 || k == 7);
+    Bytes both = exchanged(exchanged(t2, 2, once), 7, twice);
+    expect("(a|())(b|ab), record 2", memcmp(twice + 8, BYTES(3, 1, 0, 0).at, 4), 0);
+    expect("(a|())(b|ab), record 7", memcmp(twice + 28, BYTES(3, 6, 3, 0).at, 4), 0);
+    Bytes rights = BYTES(R(4, 0, 2, 8), R(3, 0, 1, 2), R(1, 'a', 1, 0), R(3, 0, 1, 7), R(1, 'b', 1, 3));
+    read("(a|())(b|ab), exchanged", both, 8, TEXT("ab"), 54, 20, 5, rights, 0);
+    Rules shared = compiled(TEXT("(a)#001|[a-b]#002"), table);
+    expect("(a)#001|[a-b]#002", shared.table.length == 12 && memcmp(table, BYTES(2, 'a', 'a', 1, 2, 'a', 'b', 2, 3, 0, 1, 0).at, 12) == 0, 1);
+    apart("(a)#001|[a-b]#002", shared.table, 2, 0);
+    cut("a, as it stands", shared.table, 2, TEXT("a"), 1, BYTES(1, 0, 1));
+    cut("a, exchanged", exchanged(shared.table, 2, once), 2, TEXT("a"), 1, BYTES(2, 0, 1));
+
+    /* the keyword and the name of docs/GUIDE.md, and there alone the tokens change */
+    Rules keyword = compiled(TEXT("(brake)#001|([a-z]*)#002"), table);
+    apart("a keyword and a name", keyword.table, keyword.start, 0);
+    cut("brake", keyword.table, keyword.start, TEXT("brake"), 1, BYTES(1, 0, 5));
+    cut("brake, exchanged", exchanged(keyword.table, keyword.start, once), keyword.start, TEXT("brake"), 1, BYTES(2, 0, 5));
+    cut("brakes, exchanged", exchanged(keyword.table, keyword.start, once), keyword.start, TEXT("brakes"), 1, BYTES(2, 0, 6));
+
+    apart_exchanged(TEXT("(a#001|(ab)#002|(bc)#003)*"), " a ab abc abcab b bc aab abbc cc");
+    apart_exchanged(TEXT("((lift)#001|(lifts)#002)(s*)#003"), " lift lifts liftss lif lifsts");
+    apart_exchanged(TEXT("((a|())#001(b|ab)#002)*"), " ab b aab abab babb aa a");
+    apart_exchanged(TEXT("((a*b|c)#001|(d|())e#002)*(x|yy)#003"), " x abx cyy dex eabyy aab");
+}
+
 /*
  * Every choice of empty arguments, for each call but Page: a null pointer with length 0 gets the answer of a valid pointer with length 0, and the
  * buffer is left the same. The bits of `empties`: 0 the table or the tokens, 1 the line or the reading, 2 the work area or the second reading, 3
@@ -895,7 +1123,7 @@ static void nulls(Bytes table, uint64_t start, Bytes line, Bytes reading, Bytes 
     static const uint8_t listed[] = {9, 0, 1};
     static const trace_pair pair[] = {{8, 9}};
     for (int empties = 0; empties < 16; empties++) {
-        uint64_t got[2][10];
+        uint64_t got[2][11];
         for (int null = 0; null < 2; null++) {
             uint8_t *at = null ? NULL : spare, *to = out[null];
             memset(to, 0xee, sizeof out[null]);
@@ -910,9 +1138,10 @@ static void nulls(Bytes table, uint64_t start, Bytes line, Bytes reading, Bytes 
             got[null][7] = trace_live_new(&fenced.line, ARG(0, table.at, table.length), start);
             got[null][8] = trace_live_add(&fenced.line, 'a', ARG(2, work, sizeof work));
             got[null][9] = trace_live_take_back(&fenced.line, ARG(2, work, sizeof work));
+            got[null][10] = trace_apart(ARG(0, table.at, table.length), start);
 #undef ARG
         }
-        for (int call = 0; call < 10; call++)
+        for (int call = 0; call < 11; call++)
             expect("null with length 0", got[1][call], got[0][call]);
         expect_buffer("null with length 0", out[1], sizeof out[1], (Bytes){out[0], sizeof out[0]});
     }
@@ -1353,6 +1582,7 @@ int main(void)
     live_by_hand(t1);
 
     pages();
+    alternatives(t1, t2, (Bytes){comb, sizeof comb});
 
     /* null pointers: with a line, and where an empty line and an empty buffer are no refusal */
     nulls(t1, 9, abc, c, c);

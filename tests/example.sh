@@ -1,7 +1,8 @@
 #!/usr/bin/env bash
 # example.sh FOLDER: what the example commissioning tool, in this folder, prints for its sample input, and its exit statuses; those of the example
 # that tries a rule on a line; what the one that shows the parts of a line prints; what the one that reads a lap prints for its sample and for laps that
-# are refused; and what the test console says where it cannot begin. Run from the repository's root.
+# are refused; what the one that says which sides of a bar may be exchanged prints; and what the test console says where it cannot begin. Run from the
+# repository's root.
 set -uo pipefail
 fail() {
     echo "example: $1"
@@ -73,6 +74,32 @@ laps l 1 "the lap rule: refused 16: the text's table has over 255 records"
 [ $? -eq 2 ] || fail "the status is not 2 where a lap is too long for the memory"
 "$lap" >/dev/full 2>/dev/null
 [ $? -eq 2 ] || fail "the status is not 2 where writing a lap fails"
+
+# sorts RULE STATUS TEXT: what the example that looks at the bars of a rule prints, and its exit status
+sorts() {
+    says=$("$sort" "$1")
+    status=$?
+    [ "$status" -eq "$2" ] && [ "$says" = "$3" ] || fail "the bars of '$1' give status $status and '$says'"
+}
+sort=$1/sort
+diff examples/sort.expected <("$sort") || fail "other output than examples/sort.expected"
+sorts 'a|b|c' 0 $'a | b: may be exchanged\n(a|b) | c: may be exchanged'
+sorts 'a|(b|c)' 0 $'a | (b|c): may be exchanged\nb | c: may be exchanged'
+sorts 'a|b(c|cd)*|e' 0 $'a | b(c|cd)*: may be exchanged\nc | cd: may be exchanged\n(a|b(c|cd)*) | e: may be exchanged'
+sorts '(brake)#001|([a-z]*)#002' 0 '(brake)#001 | [a-z]*#002: not known'
+sorts 'a#0012|(a#001*)#002**' 0 'a#0012 | a#001*#002**: may be exchanged'
+sorts '((ab|[#-*])#255c|\||[)-)])(\\|)' 1 'refused 15: the text is outside the notation, or over 4,096 bytes long'
+sorts '((ab|[#-*])#255c|\||[)-)])(\\|\a)' 0 'ab | [#-*]: may be exchanged
+(ab|[#-*])#255c | \|: may be exchanged
+((ab|[#-*])#255c|\|) | \): may be exchanged
+\\ | a: may be exchanged'
+sorts '(lift)#001' 0 'no bar'
+sorts "$(printf 'a|%.0s' {1..128})a" 1 "refused 16: the text's table has over 255 records"
+[ "$("$sort" "$(printf 'a|%.0s' {1..127})a" | grep -c ' | a: not known$')" -eq 127 ] || fail "127 bars are not shown"
+"$sort" a b 2>/dev/null
+[ $? -eq 2 ] || fail "the status is not 2 with two rules"
+"$sort" a >/dev/full 2>/dev/null
+[ $? -eq 2 ] || fail "the status is not 2 where writing the bars fails"
 
 # turns_away STATUS TEXT ARGUMENT..: the test console, without a terminal
 turns_away() {

@@ -1,6 +1,6 @@
 /*
- * The header's own functions and its structs, in C and in C++: version, answers taken apart, refusals in words, sizes, pairs, live lines, pages. Exit
- * status 0 if all is right.
+ * The header's own functions and its structs, in C and in C++: version, answers taken apart, refusals in words, sizes, pairs, live lines, pages,
+ * alternatives. Exit status 0 if all is right.
  */
 #include <stdio.h>
 #include <string.h>
@@ -90,6 +90,16 @@ static void live_lines(void)
     expect("a start number", trace_refusal(trace_live_new(&line, table, sizeof table, 3)) == TRACE_REFUSED_START && line.table_len == TRACE_TABLE_RECORD);
 }
 
+/* a|b, whose alternatives share no line, and a record that is no Or. */
+static void alternatives(void)
+{
+    static const uint8_t table[] = {TRACE_RANGE, 'a', 'a', 0, TRACE_RANGE, 'b', 'b', 0, TRACE_OR, 0, 1, 0};
+    uint64_t answer = trace_apart(table, sizeof table, 3);
+    expect("alternatives that share no line", trace_apart(table, sizeof table, 2) == 1);
+    expect("a record that is no Or", trace_apart(table, sizeof table, 1) == 0);
+    expect("a record number", trace_refusal(answer) == TRACE_REFUSED_START && trace_detail(answer) == 0 && trace_who(answer) == 0);
+}
+
 /* The four parts of an answer, each at its lowest and at its highest. */
 static void parts(void)
 {
@@ -143,6 +153,7 @@ int main(void)
     answers();
     pairs();
     live_lines();
+    alternatives();
     parts();
     pages();
     sizes();

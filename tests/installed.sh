@@ -19,7 +19,7 @@ version=$(printf '#include <trace.h>\nTRACE_VERSION\n' | gcc -E -P $(pkg-config 
 
 # the examples, linked with the shared library, and with the archive
 cc="gcc -std=c99 -O2 -Wall -Wextra -Wpedantic -Werror"
-examples="commission rules parts console lap"
+examples="commission rules parts console lap sort"
 for example in $examples; do
     $cc examples/$example.c $(pkg-config --cflags --libs trace) -o "$dir/$example"
     grep -q "libtrace.so.[0-9]* => $root/lib/" <<<"$(ldd "$dir/$example")"

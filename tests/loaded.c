@@ -1,5 +1,5 @@
 /*
- * loaded LIBRARY: opens the shared library at run time and makes each of the eleven calls through it. Exit status 0 if every answer is right.
+ * loaded LIBRARY: opens the shared library at run time and makes each of the twelve calls through it. Exit status 0 if every answer is right.
  */
 #include <dlfcn.h>
 #include <stdio.h>
@@ -47,6 +47,7 @@ int main(int count, char **arguments)
     uint64_t (*live_take_back)(trace_live *, uint8_t *, size_t);
     uint64_t (*page)(const uint8_t *, size_t, uint64_t, const uint8_t *, size_t, uint64_t, const uint8_t *, size_t, uint8_t *, size_t, uint8_t *,
                      size_t, uint8_t *, size_t, uint8_t *, size_t, uint8_t *, size_t);
+    uint64_t (*apart)(const uint8_t *, size_t, uint64_t);
     trace_live typed;
     uint8_t work[100], reading[120], listed[90], line[3], made[TRACE_MAX_TABLE], first[9], second[9];
     void *library = dlopen(count == 2 ? arguments[1] : "", RTLD_NOW | RTLD_LOCAL);
@@ -65,6 +66,7 @@ int main(int count, char **arguments)
     find(library, "trace_live_add", &live_add);
     find(library, "trace_live_take_back", &live_take_back);
     find(library, "trace_page", &page);
+    find(library, "trace_apart", &apart);
 
     expect("check", check(table, sizeof table) == 10);
     expect("read", read(table, sizeof table, 9, (const uint8_t *)"abc", 3, work, sizeof work, reading, sizeof reading) == 8);
@@ -90,6 +92,8 @@ int main(int count, char **arguments)
     expect("the page's rules", compile((const uint8_t *)"\1\3", 2, made, sizeof made) == 3);
     expect("page", PAGE("abc\nabc\nbc\n") == 3 && memcmp(listed, "\4\0\2\2\1\1\1\0\1\3\1\1", 12) == 0);
     expect("a page with a line that is refused", PAGE("abc\nb\n") == ((uint64_t)TRACE_WHO_LINE << 56 | (uint64_t)TRACE_REFUSED_NO_READING << 32 | 1));
+    expect("apart", apart(table, sizeof table, 7) == 1 && apart(table, sizeof table, 8) == 1 && apart(table, sizeof table, 9) == 0);
+    expect("a record that is refused", trace_refusal(apart(table, sizeof table, 10)) == TRACE_REFUSED_START);
     dlclose(library);
     return 0;
 }

@@ -30,7 +30,13 @@ sed -n 's/^static const char l[a-z]*_rule\[\] = "\(.*\)";$/\1/p' examples/lap.c 
 while IFS= read -r rule; do
     grep -qxF "rule: $rule" docs/GUIDE.md || fail "docs/GUIDE.md does not have the rule $rule"
 done <"$dir/rules"
-[[ $(<docs/GUIDE.md) == *"$(sed 's/^/    /' examples/lap.expected)"* ]] || fail "docs/GUIDE.md shows something else than examples/lap.expected"
+# and that of examples/sort.c
+sed -n 's/^static const char sample_rule\[\] = "\(.*\)";$/\1/p' examples/sort.c >"$dir/rule"
+[ "$(wc -l <"$dir/rule")" -eq 1 ] || fail "examples/sort.c has other rules than one"
+grep -qxF "rule: $(<"$dir/rule")" docs/GUIDE.md || fail "docs/GUIDE.md does not have the rule of examples/sort.c"
+for example in lap sort; do
+    [[ $(<docs/GUIDE.md) == *"$(sed 's/^/    /' examples/$example.expected)"* ]] || fail "docs/GUIDE.md shows something else than examples/$example.expected"
+done
 
 # README.md names every crate, and every C function that a program calls
 for crate in $(sed -n 's/^\([a-z_]*\):.*/\1/p' crates.txt); do

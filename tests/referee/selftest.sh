@@ -341,4 +341,47 @@ done <<'LIST'
 310 page Page: 10 of the page goes by the records of the line rules
 311 page Page: 11 of a line's reading is judged on the page's buffer too
 312 page Page: the readings of the lines go to the page's buffer
+313 apart Apart: no alternatives are seen to be apart
+314 apart Apart: all alternatives are
+315 apart Apart: a Seq is looked at as an Or is
+316 apart Apart: the empty line is not looked at
+317 apart Apart: only first bytes are looked at
+318 apart Apart: only last bytes are looked at
+319 apart Apart: first and last bytes must both be others
+320 apart Apart: the byte 255 is not looked at
+321 apart Apart: the byte 0 is not looked at
+322 apart Apart: bytes are compared by 7 bits
+323 apart Apart: a Seq has the bytes of its near part alone
+324 apart Apart: a Seq has the bytes of both parts
+325 apart Apart: a Seq with a part that spells nothing has no bytes
+326 apart Apart: a Star has no bytes
+327 apart Apart: a Star does not spell the empty line
+328 apart Apart: an Or has the bytes of its first alternative alone
+329 apart Apart: an Or spells the empty line only if both alternatives do
+330 apart Apart: a Seq spells the empty line if its first part does
+331 apart Apart: Other has the bytes of a Range
+332 apart Apart: Other with bounds 0 and 255 has every byte
+333 apart Apart: a Range lacks its upper bound
+334 apart Apart: the first alternative is held against itself
+335 apart Apart: 0 and 1 change places
+336 apart Apart: a yes is 2
+337 apart Apart: the last record is taken for the one that is asked for
+338 apart Apart: the record number loses its upper half
+339 apart Apart: the number behind the last record is taken for the last one
+340 apart Apart: the last record is refused
+341 apart Apart: 9 comes before 2 to 6
+342 apart Apart: refusal 9 has the record number as its detail
+343 apart Apart: a child that is named twice is not refused
+344 apart Apart: the alternatives of a tagged Or are never apart
+345 apart Apart: other lengths are seen too
+346 apart Apart: Nothing spells the empty line
+347 apart Apart: Empty does not spell the empty line
+348 apart Apart: last bytes are looked for at the start
+349 valgrind Apart: reads past the end of the table
+350 stack Apart: takes 8 KiB of stack at each level
+351 apart Apart: changes the table
+352 apart Apart: bytes from 128 on are not looked at
+353 stack Apart: records deeper than 64 levels are passed over
+354 apart Apart: the record number is taken by 8 bits
+355 apart Apart: the highest bit of the record number is passed over
 LIST

@@ -1,6 +1,6 @@
 -- The laws on the edges of lines, which upper crates cite.
 pub mod Edges
 pub mod Held
-mod Bits
+pub mod Bits
 mod Records
 mod Marks

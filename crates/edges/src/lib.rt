@@ -152,7 +152,7 @@ fn bits_of(
 }
 
 // The bits of record k, from the table alone. Marks the bytes that the letters up to it hold.
-fn find_bits(table: &[u8], k: usize, first: u8, last: u8, words: &mut [u64; 4]) -> u8
+pub fn find_bits(table: &[u8], k: usize, first: u8, last: u8, words: &mut [u64; 4]) -> u8
     requires { ⌜ Passes (now table) ⌝ }
     requires { ⌜ k < count (now table) ⌝ }
     requires { ⌜ length (now words) ≡ 4 ⌝ }

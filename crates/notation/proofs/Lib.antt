@@ -5,8 +5,8 @@ pub mod Sound
 pub mod Stopping
 pub mod Records
 pub mod Standing
+pub mod Ranges
 pub mod Passing
-mod Ranges
 mod Segments
 mod Laying
 mod Showing

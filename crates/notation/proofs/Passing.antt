@@ -91,7 +91,10 @@ size-right : (T : List ℕ) (n : ℕ) → length T ≡ 4 * n → 1 ≤ n → n �
 size-right T n e l h =
     rw (ne-eqb (length T) 0 (λ z. omega arith), le-ltb 1020 (length T) (omega arith), eq-eqb (length T % 4) 0 (omega arith))
 
-pub table-passes : {s : List ℕ} {t : Tree} → Whole s t → size t ≤ 255 → Passes (tableOf t)
-table-passes {t = t} w l =
+pub ordered-passes : (t : Tree) → Ordered t → size t ≤ 255 → Passes (tableOf t)
+ordered-passes t o l =
     segment-passes (tableOf t) (size-right (tableOf t) (size t) (records-length 0 t) (omega arith) l)
-    (rw (table-count t) (rw zero-add at (segment t (tableOf t) 0 (table-placed t) (whole-ordered w))))
+    (rw (table-count t) (rw zero-add at (segment t (tableOf t) 0 (table-placed t) o)))
+
+pub table-passes : {s : List ℕ} {t : Tree} → Whole s t → size t ≤ 255 → Passes (tableOf t)
+table-passes {t = t} w = ordered-passes t (whole-ordered w)

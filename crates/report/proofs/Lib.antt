@@ -3,4 +3,5 @@ pub mod TokenLines
 pub mod Cases
 mod Reports
 pub mod Room
+pub mod Alike
 pub mod Long

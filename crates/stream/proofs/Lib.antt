@@ -3,3 +3,4 @@ pub mod Reports
 pub mod Taking
 pub mod Whole
 pub mod Cases
+pub mod Reordered

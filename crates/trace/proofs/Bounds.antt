@@ -2,7 +2,7 @@
 -- Assumes nothing.
 use Prim.Native.Nat.{ℕ, _*_, _≤_, _<_, _%_}
 use mathlib.Core.Path.{_≡_, refl, sym, _∙_, subst}
-use mathlib.Core.Bool.{Bool, false, not, _||_}
+use mathlib.Core.Bool.{Bool, true, false, not, cond, _||_}
 use mathlib.Core.List.{List}
 use native.Mathlib.Omega.{arith}
 use borrow.Author.Tests.{ltb-false}
@@ -35,6 +35,8 @@ use Rattle.tokens.proofs.Counts.{bytes-count, tokens-count}
 use Rattle.ranking.specs.Answers.{verdictNumber, sameLine, compareParsed, compareSays}
 use Rattle.matcher.specs.Calls.{workSize, readParsed, readSays}
 use Rattle.matcher.proofs.Written.{few-records}
+use Rattle.reorder.specs.Tests.{seenApart}
+use Rattle.apart.specs.Calls.{apartSays}
 use Rattle.notation.specs.Calls.{compileSays}
 use Rattle.notation.proofs.Calls.{compile-said}
 
@@ -154,6 +156,15 @@ small-read t k s work room =
         let n : length (flat v) ≤ 255 = rw (posix-flat q) h in
         let r : records v ≤ 65025 = few-records t k v p l (posix-reads q) n in
         small-room room (encode t k v) (records v) (omega (arith, encode-length t k (posix-reads q))) (omega arith)
+
+-- Apart's
+pub small-apart : (t : List ℕ) (k : ℕ) → Small (apartSays t k)
+unfolding apartSays
+small-apart t k = small-start t k _ (λ p l. go (seenApart t k))
+  where
+    go : (b : Bool) → Small (gives (cond b 1 0))
+    go true = omega arith
+    go false = omega arith
 
 -- and that of the call that turns notation into a table
 pub small-compile : (s : List ℕ) (room : ℕ) → Small (compileSays s room)

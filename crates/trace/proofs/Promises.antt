@@ -1,23 +1,24 @@
 -- The page of promises: the three demands, and what document 02's requests add, over the definitions that the calls' contracts cite, each
 -- proved by one citation. The contracts of table::check, matcher::read, reading::spell, tokens::tokens, ranking::compare, ranking::earlier,
--- notation::compile, order::order, live::LiveLine::new, add and take_back, and page::read_page say that the calls answer and leave what these definitions say, for every input: none of
--- them has a `requires`, and each is proved to end.
+-- notation::compile, order::order, live::LiveLine::new, add and take_back, page::read_page and apart::apart say that the calls answer and leave what these definitions say, for every
+-- input: none of them has a `requires`, and each is proved to end.
 -- The clause rivals of matcher::read and the clause precedence of ranking::compare say demand 3 of the answer and the buffer themselves, and
 -- those of the calls for C of the number.
 -- Assumes nothing.
 use Prim.Native.Nat.{ℕ, _+_, _*_, _%_, _≤_, _<_, max}
 use mathlib.Core.Path.{_≡_}
-use mathlib.Core.Bool.{true}
+use mathlib.Core.Bool.{Bool, true, false}
 use mathlib.Core.List.{List, [], _∷_, _++_, map, flatMap}
 use mathlib.Core.Logic.{_⊎_, _↔_}
 use lib.ListN.{length, getD, take, drop}
 use Rattle.regex.specs.Expressions.{Exp}
 use Rattle.regex.specs.Values.{Val, flat, Reads}
 use Rattle.regex.specs.Language.{Bytes, L}
+use Rattle.regex.specs.Relation.{Posix}
 use Rattle.regex.specs.Extends.{Extends, extends}
 use Rattle.regex.proofs.Bytes.{spelled-bytes}
 use Rattle.regex.proofs.Extends.{extends-sound, extends-complete, spelled-extends, extends-start, some-line}
-use Rattle.table.specs.Records.{count, upTo, kindAt, aAt, bAt, recordBytes}
+use Rattle.table.specs.Records.{count, upTo, kindAt, aAt, bAt, tagAt, recordBytes}
 use Rattle.table.specs.Faults.{Passes}
 use Rattle.table.specs.Answers.{Said, gives, refuses, number}
 use Rattle.table.specs.Checked.{checked}
@@ -56,8 +57,17 @@ use Rattle.live.proofs.OneCall.{refused-keeps}
 use Rattle.live.proofs.Runs.{runs-as-model}
 use Rattle.lines.specs.Lines.{linesOf, joinLines, Plain}
 use Rattle.lines.proofs.Joining.{lines-joined, lines-plain, lines-back}
-use Rattle.lexer.specs.Lexing.{lexSays, lexLeaves}
+use Rattle.lexer.specs.Lexing.{tokensOf, lexSays, lexLeaves}
 use Rattle.lexer.proofs.Lexing.{lex-by-tokens, lex-refused}
+use Rattle.reorder.specs.Exchanges.{swapped, reordered, changed, OrRecord, Apart as AlternativesApart, Shared, Each}
+use Rattle.reorder.specs.Readings.{mirrored}
+use Rattle.reorder.proofs.Reordering.{one-swapped, reordered-checked, reordered-passes, reordered-lines, reordered-tokens, reordered-posix-tokens, reordered-read, reordered-writes, reordered-lists}
+use Rattle.reorder.proofs.Shared.{shared-tokens, shared-differ}
+use Rattle.reorder.specs.Texts.{SidesApart, Arranged}
+use Rattle.reorder.proofs.Lines.{same-lists}
+use Rattle.reorder.proofs.Texts.{neighbours, text-size, text-lines, text-tokens, text-reading}
+use Rattle.apart.specs.Calls.{apartSays}
+use Rattle.apart.proofs.Yes.{yes-apart}
 use Rattle.page.specs.Entries.{Rules, Entry, alike, likeness}
 use Rattle.page.specs.Runs.{Run, members, runs, runsByFirst, AlikeInside, LikeFirst, Apart}
 use Rattle.page.specs.Outcomes.{Who, the-page, line-rules, page-rules, one-line, PageSaid, names, pageNumber}
@@ -66,9 +76,11 @@ use Rattle.page.proofs.Likeness.{alike-exactly}
 use Rattle.page.proofs.Runs.{same-runs, runs-whole}
 use Rattle.page.proofs.Division.{runs-alike, runs-like-first, runs-apart, runs-only}
 use Rattle.page.proofs.Meaning.{page-refused, page-gives, page-said, page-left, page-reads, page-outranks, page-line-rules, page-page-rules, page-many, page-first-refused, page-empty}
-use Rattle.notation.specs.Trees.{Tree}
+use Rattle.page.specs.Sorted.{sorted}
+use Rattle.page.proofs.Reordered.{same-page, same-page-left}
+use Rattle.notation.specs.Trees.{Tree, alt, expression}
 use Rattle.notation.specs.Grammar.{Whole}
-use Rattle.notation.specs.Tables.{size, tableOf}
+use Rattle.notation.specs.Tables.{under, size, tableOf}
 use Rattle.notation.specs.Calls.{compileSays, compileLeaves, stopsAt}
 use Rattle.notation.specs.Accepted.{Text, Begins, TableFor}
 use Rattle.notation.proofs.Complete.{one-tree}
@@ -82,7 +94,7 @@ use Rattle.order.proofs.Meaning.{kept-exactly, kept-count, broken-exactly, same
 use Rattle.trace.specs.Numbers.{Small, SmallPage}
 use Rattle.trace.specs.SameCalls.{SameCalls}
 use Rattle.trace.proofs.Answers.{spell-refused, tokens-refused}
-use Rattle.trace.proofs.Bounds.{small-checked, small-read, small-spell, small-compare, small-tokens, small-compile, room-for-line, room-for-all}
+use Rattle.trace.proofs.Bounds.{small-checked, small-read, small-spell, small-compare, small-tokens, small-compile, room-for-line, room-for-all, small-apart}
 use Rattle.trace.proofs.Numbers.{same-number}
 use Rattle.trace.proofs.UpTo.{up-to-same, up-to-less}
 use Rattle.trace.proofs.Ordering.{small-order, bytes-tokens, bytes-names}
@@ -122,6 +134,9 @@ live-take-back-answers = take-back-small
 
 pub page-answers : (l p : Rules) (page : List ℕ) (z : Sizes) (room : ℕ) → SmallPage (pageSays l p page z room)
 page-answers = small-page
+
+pub apart-answers : (t : List ℕ) (k : ℕ) → Small (apartSays t k)
+apart-answers = small-apart
 
 -- Demand 1: and no two of these answers have one number for C
 pub number-unique : (x y : Said) → Small x → Small y → number x ≡ number y → x ≡ y
@@ -503,6 +518,129 @@ pub page-of-none :
     ≡ ifTaken line-rules (rulesSay l)
     (ifTaken page-rules (rulesSay p) (names the-page (readSays (p .table) (p .start) [] (z .work) room)))
 page-of-none = page-empty
+
+-- Request 9: exchanging the a and b of Or records, one after the other, `reordered t ks`; one exchange, `swapped t k`, is a list of one
+pub reorder-one : (t : List ℕ) (k : ℕ) → reordered t (k ∷ []) ≡ swapped t k
+reorder-one = one-swapped
+
+-- Request 9: it "gives a table that Check passes too", and more: Check says the same, of refused tables too. It "reads exactly the same lines from
+-- every start". Neither needs that the alternatives share no line
+pub reorder-check : (t ks : List ℕ) → Each (OrRecord t) ks → checked (reordered t ks) ≡ checked t
+reorder-check = reordered-checked
+
+pub reorder-passes : (t ks : List ℕ) → Each (OrRecord t) ks → Passes t → Passes (reordered t ks)
+reorder-passes = reordered-passes
+
+pub reorder-lines :
+    (t ks : List ℕ) → Each (OrRecord t) ks → Passes t → (k : ℕ) → k < count t → (s : List ℕ) → L (expOf t k) s ↔ L (expOf (reordered t ks) k) s
+reorder-lines = reordered-lines
+
+-- Request 9: "if no line is spelled by both alternatives of an Or record, however deep under others", of each in the first table, it "yields the same
+-- token list for each": the tokens of the line, and those of its readings by the relation
+pub reorder-tokens :
+    (t ks : List ℕ) → Each (AlternativesApart t) ks → Passes t → (k : ℕ) → k < count t → (s : List ℕ) → length s ≤ 255
+    → tokensOf (reordered t ks) k s ≡ tokensOf t k s
+reorder-tokens = reordered-tokens
+
+pub reorder-posix-tokens :
+    (t ks : List ℕ) → Each (AlternativesApart t) ks → Passes t → (k : ℕ) → k < count t → (s : List ℕ) → length s ≤ 255
+    → (v w : Val) → Posix s (expOf t k) v → Posix s (expOf (reordered t ks) k) w → tokensFrom (reordered t ks) k w 0 ≡ tokensFrom t k v 0
+reorder-posix-tokens = reordered-posix-tokens
+
+-- Request 9: so Read's answer is the same for every start number, line and length of buffers, of refused tables too
+pub reorder-read :
+    (t ks : List ℕ) → Each (AlternativesApart t) ks → (k : ℕ) (s : List ℕ) (work room : ℕ)
+    → readSays (reordered t ks) k s work room ≡ readSays t k s work room
+reorder-read = reordered-read
+
+-- Request 9: Read writes the same bytes but for the kinds Left and Right, which are exchanged at the records whose fields are
+pub reorder-writes :
+    (t ks : List ℕ) → Each (AlternativesApart t) ks → (k : ℕ) (s : List ℕ) (work : ℕ) (out : List ℕ) (n : ℕ)
+    → readSays t k s work (length out) ≡ gives n
+    → readLeaves (reordered t ks) k s work out ≡ mirrored (changed ks) (take (recordSize * n) (readLeaves t k s work out)) ++ drop (recordSize * n) out
+reorder-writes = reordered-writes
+
+-- Request 9: and what Tokens says and leaves of the reading that Read wrote is the same
+pub reorder-lists :
+    (t ks : List ℕ) → Each (AlternativesApart t) ks → (k : ℕ) (s : List ℕ) (work : ℕ) (reading list : List ℕ) (n : ℕ)
+    → readSays t k s work (length reading) ≡ gives n
+    → (tokensSays (reordered t ks) k (take (recordSize * n) (readLeaves (reordered t ks) k s work reading)) (length list)
+    ≡ tokensSays t k (take (recordSize * n) (readLeaves t k s work reading)) (length list))
+    × (tokensLeaves (reordered t ks) k (take (recordSize * n) (readLeaves (reordered t ks) k s work reading)) list
+    ≡ tokensLeaves t k (take (recordSize * n) (readLeaves t k s work reading)) list)
+reorder-lists = reordered-lists
+
+-- Request 9: and what is said of a page, by line rules and page rules so reordered; with the page rules as they were, the page's reading, too
+pub reorder-page :
+    (l p : Rules) (ks ms : List ℕ) → Each (AlternativesApart (l .table)) ks → Each (AlternativesApart (p .table)) ms
+    → (page : List ℕ) (z : Sizes) (room : ℕ)
+    → pageSays (sorted l ks) (sorted p ms) page z room ≡ pageSays l p page z room
+reorder-page = same-page
+
+pub reorder-page-reading :
+    (l p : Rules) (ks : List ℕ) → Each (AlternativesApart (l .table)) ks → (page : List ℕ) (z : Sizes) (out : List ℕ) (n : ℕ)
+    → pageSays l p page z (length out) ≡ names the-page (gives n)
+    → pageLeaves (sorted l ks) p page z out ≡ pageLeaves l p page z out
+reorder-page-reading = same-page-left
+
+-- Request 9: "Where the two share a line": from the record itself, if it has no tag, the line's tokens are those of the alternative that stands first,
+-- and after the exchange those of the other; so under two tags they differ
+pub reorder-shared :
+    (t : List ℕ) (k : ℕ) (s : List ℕ) → Passes t → Shared t k s → tagAt t k ≡ 0
+    → (tokensOf t k s ≡ tokensOf t (aAt t k) s) × (tokensOf (swapped t k) k s ≡ tokensOf t (bAt t k) s)
+reorder-shared = shared-tokens
+
+pub reorder-names-differ :
+    (t : List ℕ) (k : ℕ) (s : List ℕ) → Passes t → Shared t k s → tagAt t k ≡ 0 → 1 ≤ tagAt t (aAt t k) → 1 ≤ tagAt t (bAt t k)
+    → ¬ (tagAt t (aAt t k) ≡ tagAt t (bAt t k))
+    → 1 ≤ length s
+    → ¬ (tokensOf (swapped t k) k s ≡ tokensOf t k s)
+reorder-names-differ = shared-differ
+
+-- Request 9, of rules as text (request 3), whose records are numbered otherwise when their order changes: a text whose tree has the two sides of bars
+-- exchanged that share no line, and rows of bars grouped otherwise, in any number and at any depth, has a table with as many records, which spells the
+-- same lines from its last record, and each has the same tokens
+pub reorder-text-size :
+    {s s′ : List ℕ} (x : Text s) (x′ : Text s′) {g : Bool} → Arranged g (x .tree) (x′ .tree) → size (x′ .tree) ≡ size (x .tree)
+reorder-text-size = text-size
+
+pub reorder-text-lines :
+    {s s′ : List ℕ} (x : Text s) (x′ : Text s′) {g : Bool} → Arranged g (x .tree) (x′ .tree)
+    → (line : List ℕ) → L (expression (x .tree)) line ↔ L (expression (x′ .tree)) line
+reorder-text-lines = text-lines
+
+pub reorder-text-tokens :
+    {s s′ : List ℕ} (x : Text s) (x′ : Text s′) {g : Bool} → Arranged g (x .tree) (x′ .tree) → size (x .tree) ≤ 255
+    → (line : List ℕ) → length line ≤ 255
+    → tokensOf (tableOf (x′ .tree)) (under (x′ .tree)) line ≡ tokensOf (tableOf (x .tree)) (under (x .tree)) line
+reorder-text-tokens = text-tokens
+
+-- Request 9, of rules as text: two neighbours of a row that share no line may be exchanged, what stands before them being as it is
+pub reorder-neighbours : {t u w : Tree} {n : ℕ} → SidesApart u w → Arranged true (alt (alt t u 0) w n) (alt (alt t w 0) u n)
+reorder-neighbours = neighbours
+
+-- Request 9, of rules as text: exchanges alone leave Read's answers, record counts included, and what Tokens says and leaves of the reading that Read wrote
+pub reorder-text-read :
+    {s s′ : List ℕ} (x : Text s) (x′ : Text s′) → Arranged false (x .tree) (x′ .tree) → size (x .tree) ≤ 255 → (line : List ℕ) (work room : ℕ)
+    → readSays (tableOf (x′ .tree)) (under (x′ .tree)) line work room ≡ readSays (tableOf (x .tree)) (under (x .tree)) line work room
+reorder-text-read x x′ y few = text-reading x x′ y few .reads
+
+pub reorder-text-lists :
+    {s s′ : List ℕ} (x : Text s) (x′ : Text s′) → Arranged false (x .tree) (x′ .tree) → size (x .tree) ≤ 255
+    → (line : List ℕ) (work : ℕ) (reading list : List ℕ) (n : ℕ)
+    → readSays (tableOf (x .tree)) (under (x .tree)) line work (length reading) ≡ gives n
+    → (tokensSays (tableOf (x′ .tree)) (under (x′ .tree))
+    (take (recordSize * n) (readLeaves (tableOf (x′ .tree)) (under (x′ .tree)) line work reading)) (length list)
+    ≡ tokensSays (tableOf (x .tree)) (under (x .tree)) (take (recordSize * n) (readLeaves (tableOf (x .tree)) (under (x .tree)) line work reading))
+    (length list))
+    × (tokensLeaves (tableOf (x′ .tree)) (under (x′ .tree))
+    (take (recordSize * n) (readLeaves (tableOf (x′ .tree)) (under (x′ .tree)) line work reading)) list
+    ≡ tokensLeaves (tableOf (x .tree)) (under (x .tree)) (take (recordSize * n) (readLeaves (tableOf (x .tree)) (under (x .tree)) line work reading)) list)
+reorder-text-lists x x′ y few = same-lists (text-reading x x′ y few)
+
+-- Request 9: where Apart answers 1, record k is an Or and no line is spelled by both its alternatives
+pub apart-yes : (t : List ℕ) (k : ℕ) → apartSays t k ≡ gives 1 → AlternativesApart t k
+apart-yes = yes-apart
 
 -- Beyond the demands: a table that passes may be lent up to its start record alone. It passes too, with the start record as its last, each call
 -- says and leaves the same by it, and Read needs no more work area

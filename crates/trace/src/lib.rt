@@ -19,6 +19,8 @@ ghost use Rattle.regex.specs.Language.{Bytes};
 ghost use Rattle.table.specs.Records.{count};
 ghost use Rattle.page.specs.Outcomes.{outcomeSays, pageNumber};
 ghost use Rattle.page.specs.Pages.{classesOf, pageSays, pageLeaves, keepsScratch, PageTaken};
+ghost use Rattle.reorder.specs.Exchanges.{Apart};
+ghost use Rattle.apart.specs.Calls.{apartSays};
 ghost use Rattle.trace.specs.Numbers.{Small, Encodable, SmallPage};
 use live::Heard;
 use live::LiveLine;
@@ -250,4 +252,13 @@ pub extern "C" fn trace_page(
         second,
         out,
     ))
+}
+
+// Apart, of record k.
+#[no_mangle]
+pub extern "C" fn trace_apart(table: &[u8], k: u64) -> u64
+    ensures answer { λ r. ⌜ r ≡ number (apartSays (now (table .entry)) k) ⌝ }
+    ensures yes { λ r. ⌜ (r ≡ 1 → Apart (now (table .entry)) k) ⌝ }
+{
+    number_of(apart::apart(table, k as usize))
 }

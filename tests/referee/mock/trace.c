@@ -1018,3 +1018,100 @@ uint64_t trace_page(const uint8_t *line_table, size_t line_table_len, uint64_t l
     if (FAULT == 299 && page_len) ((uint8_t *)page)[page_len - 1]++;
     return read_classes(&p, count);
 }
+
+static int spells_empty(tab t, size_t k) {
+    size_t a = fa(t, k), b = fb(t, k);
+    switch (kind(t, k)) {
+    case 0: return FAULT == 346;
+    case 1: return FAULT != 347;
+    case 3: return FAULT == 329 ? spells_empty(t, a) && spells_empty(t, b) : spells_empty(t, a) || spells_empty(t, b);
+    case 4: return spells_empty(t, a) && (FAULT == 330 || spells_empty(t, b));
+    case 5: return FAULT != 327;
+    default: return 0;
+    }
+}
+
+/* Fault 325: whether a record spells any line. */
+static int spells_some(tab t, size_t k) {
+    switch (kind(t, k)) {
+    case 0: return 0;
+    case 3: return spells_some(t, fa(t, k)) || spells_some(t, fb(t, k));
+    case 4: return spells_some(t, fa(t, k)) && spells_some(t, fb(t, k));
+    case 6: return fa(t, k) > 0 || fb(t, k) < 255;
+    default: return 1;
+    }
+}
+
+/* Fault 345: the one length of a record's lines, or -1. */
+static int only_length(tab t, size_t k) {
+    int a, b;
+    switch (kind(t, k)) {
+    case 1: return 0;
+    case 2: case 6: return 1;
+    case 3: case 4:
+        a = only_length(t, fa(t, k)), b = only_length(t, fb(t, k));
+        return a < 0 || b < 0 ? -1 : kind(t, k) == 4 ? a + b : a == b ? a : -1;
+    default: return -1;
+    }
+}
+
+/* Whether lines of a record start with c, or end with it. */
+static int at_edge(tab t, size_t k, int back, int c, int level) {
+    size_t a = fa(t, k), b = fb(t, k), near = back ? b : a, far = back ? a : b;
+    if (FAULT == 350) {
+        volatile uint8_t *big = __builtin_alloca(8192);
+        big[0] = big[8191] = 0;
+    }
+    if (FAULT == 353 && level > 64) return 0;
+    level++;
+    switch (kind(t, k)) {
+    case 2: return (int)a <= c && c <= (int)b - (FAULT == 333 && a < b);
+    case 6:
+        if (FAULT == 331) return (int)a <= c && c <= (int)b;
+        if (FAULT == 332 && a == 0 && b == 255) return 1;
+        return c < (int)a || c > (int)b;
+    case 3: return at_edge(t, a, back, c, level) || (FAULT != 328 && at_edge(t, b, back, c, level));
+    case 4:
+        if (FAULT == 325 && !spells_some(t, k)) return 0;
+        if (at_edge(t, near, back, c, level)) return 1;
+        return FAULT != 323 && (FAULT == 324 || spells_empty(t, near)) && at_edge(t, far, back, c, level);
+    case 5: return FAULT != 326 && at_edge(t, a, back, c, level);
+    default: return 0;
+    }
+}
+
+static int edge_shared(tab t, size_t a, size_t b, int back) {
+    if (FAULT == 348) back = 0;
+    for (int c = FAULT == 321; c < (FAULT == 320 ? 255 : FAULT == 352 ? 128 : 256); c++) {
+        if (at_edge(t, a, back, c, 0) && at_edge(t, b, back, c, 0)) return 1;
+        if (FAULT == 322 && at_edge(t, a, back, c, 0) && at_edge(t, b, back, c ^ 128, 0)) return 1;
+    }
+    return 0;
+}
+
+uint64_t trace_apart(const uint8_t *table, size_t table_len, uint64_t record) {
+    if (FAULT == 349 && table_len && table[table_len] == 9) return 0;
+    uint64_t c = trace_check(table, table_len);
+    if (FAULT == 341 && c >> 32 > 1 && record >= table_len / 4) return refuse(9, 0);
+    if (FAULT == 343 && c >> 32 == 6) return 0;
+    if (c >> 32) return c;
+    if (FAULT == 338) record = (uint32_t)record;
+    if (FAULT == 354) record = (uint8_t)record;
+    if (FAULT == 355) record = record << 1 >> 1;
+    if (FAULT == 339 && record == c) record--;
+    if (record >= c - (FAULT == 340)) return refuse(9, FAULT == 342 ? (uint32_t)record : 0);
+    if (FAULT == 337) record = c - 1;
+    if (FAULT == 351) ((uint8_t *)table)[4 * record + 3]++;
+    tab t = {table, c};
+    size_t a = fa(t, record), b = FAULT == 334 ? a : fb(t, record);
+    uint64_t yes = FAULT == 336 ? 2 : FAULT != 335, no = FAULT == 335;
+    if (kind(t, record) != 3 && !(FAULT == 315 && kind(t, record) == 4)) return no;
+    if (FAULT == 313 || (FAULT == 344 && tag(t, record))) return no;
+    if (FAULT == 314) return yes;
+    if (FAULT != 316 && spells_empty(t, a) && spells_empty(t, b)) return no;
+    if (FAULT == 345 && only_length(t, a) >= 0 && only_length(t, b) >= 0 && only_length(t, a) != only_length(t, b)) return yes;
+    int starts = edge_shared(t, a, b, 0), ends = edge_shared(t, a, b, 1);
+    if (FAULT == 317) ends = 1;
+    if (FAULT == 318) starts = 1;
+    return (FAULT == 319 ? starts || ends : starts && ends) ? no : yes;
+}

@@ -1,7 +1,8 @@
 //! The lines on the bench of document 01: tables T1 to T4, cases A to J and
 //! the edges. And lines for Other, for empty tagged parts, for the notation, for
 //! names that must come first, for lengths and record numbers that are not the
-//! true ones, and for pages, requests 1 to 3, 5, 6 and 8 of document 02.
+//! true ones, for pages, and for alternatives, requests 1 to 3, 5, 6, 8 and 9 of
+//! document 02.
 
 use crate::calls::{self, Reader};
 use crate::page::{Page, Rooms, Rules, Who};
@@ -116,6 +117,7 @@ pub enum Request {
     Compile { text: Vec<u8> },
     Order { tokens: Vec<u8>, pairs: Vec<Pair> },
     Page(Page),
+    Apart { table: Vec<u8>, record: u64 },
 }
 
 impl Request {
@@ -138,13 +140,17 @@ impl Request {
             Request::Compile { text } => calls::trace_compile(text, out),
             Request::Order { tokens, pairs } => calls::trace_order(tokens, pairs),
             Request::Page(page) => page.answer(reader, out),
+            Request::Apart { table, record } => calls::trace_apart(table, *record),
         }
     }
 
     /// The bytes of what a result counts: none where nothing is written.
     pub fn width(&self) -> usize {
         match self {
-            Request::Check { .. } | Request::Compare { .. } | Request::Order { .. } => 0,
+            Request::Check { .. }
+            | Request::Compare { .. }
+            | Request::Order { .. }
+            | Request::Apart { .. } => 0,
             Request::Spell { .. } => 1,
             Request::Tokens { .. } => 3,
             Request::Read { .. } | Request::Compile { .. } | Request::Page(_) => 4,
@@ -326,6 +332,7 @@ pub fn stated() -> Vec<Stated> {
     lines.extend(texts);
     lines.extend(orders());
     lines.extend(pages());
+    lines.extend(alternatives());
     lines
 }
 
@@ -460,6 +467,73 @@ fn pages() -> Vec<Stated> {
         refused("the page by 8", b"ab\na", &[2, 2, 2, 0], ample, Who::Page, refusal(8)),
         refused("the page's rules by 2", b"b", &[7, 0, 0, 0], ample, Who::PageRules, refusal(2)),
     ]
+}
+
+/// Records of T1 and T2, and the last records of short texts, by what is seen of
+/// their alternatives.
+fn alternatives() -> Vec<Stated> {
+    let apart = |name, table: &[u8], record, number| Stated {
+        name,
+        request: Request::Apart { table: table.to_vec(), record },
+        number,
+        written: vec![],
+    };
+    let then_nothing = [2, 0x61, 0x61, 0, 0, 0, 0, 0, 4, 0, 1, 0, 2, 0x61, 0x61, 0, 3, 2, 3, 0];
+    let between = [
+        2, 0x61, 0x61, 0, 0, 0, 0, 0, 4, 0, 1, 0, 2, 0x61, 0x61, 0, 4, 2, 3, 0, 2, 0x61, 0x61, 0,
+        3, 4, 5, 0,
+    ];
+    let mut lines = vec![
+        apart("a and Nothing, or a", &then_nothing, 4, 1),
+        apart("a, Nothing and a, or a", &between, 6, 0),
+        apart("a or ab", T1, 7, 1),
+        apart("a or ab, or bc", T1, 8, 1),
+        apart("a or nothing", T2, 2, 1),
+        apart("b or ab", T2, 7, 1),
+        apart("a Range", T1, 0, 0),
+        apart("a Seq", T1, 6, 0),
+        apart("a Star", T1, 9, 0),
+        apart("an Empty", T4, 0, 0),
+        apart("an Other", NO_BYTE, 0, 0),
+        apart("the record behind the last", T1, 10, refusal(9)),
+        apart("a record number of 2^32 and one", T1, (1 << 32) + 7, refusal(9)),
+        apart("a record number of 2^63 and one", T1, (1 << 63) + 7, refusal(9)),
+        apart("the largest record number", T1, u64::MAX, refusal(9)),
+        apart("no table", &[], 0, refusal(1)),
+        apart("a kind before the record number", &[1, 0, 0, 0, 7, 0, 0, 0], 9, refusal(2) + 1),
+        apart("one child twice", &[1, 0, 0, 0, 3, 0, 0, 0], 1, refusal(6) + 1),
+        apart("Nothing or Nothing", &[0, 0, 0, 0, 0, 0, 0, 0, 3, 0, 1, 0], 2, 1),
+        apart("no byte or 5", &[6, 0, 255, 0, 2, 5, 5, 0, 3, 0, 1, 0], 2, 1),
+        apart("all but 5, or 5", &[6, 5, 5, 0, 2, 5, 5, 0, 3, 0, 1, 0], 2, 1),
+        apart("all but 5, or 6", &[6, 5, 5, 0, 2, 6, 6, 0, 3, 0, 1, 0], 2, 0),
+        apart("255 or 255", &[2, 255, 255, 0, 2, 255, 255, 0, 3, 0, 1, 0], 2, 0),
+        apart("0 or 0", &[2, 0, 0, 0, 2, 0, 0, 0, 3, 0, 1, 0], 2, 0),
+        apart("0 or 255", &[2, 0, 0, 0, 2, 255, 255, 0, 3, 1, 0, 0], 2, 1),
+    ];
+    let texts = [
+        ("a|b", 1),
+        ("a|a", 0),
+        ("a*|b*", 0),
+        ("a*|bb*", 1),
+        ("()|()", 0),
+        ("ab|ac", 1),
+        ("ab|cb", 1),
+        ("ab|ab", 0),
+        ("axb|ayb", 0),
+        ("[0-9]|[0-9][0-9]", 0),
+        ("(b)#001|([a-z]*)#002", 0),
+        ("a*b|bc", 1),
+        ("a*b|b", 0),
+        ("(a|b)|(b|c)", 0),
+        ("(a|())b|(c|())d", 1),
+        ("(a|())b|(c|())b", 0),
+    ];
+    for (text, number) in texts {
+        let mut table = [0; 64];
+        let records = calls::trace_compile(text.as_bytes(), &mut table);
+        lines.push(apart(text, &table[..4 * records as usize], records - 1, number));
+    }
+    lines
 }
 
 #[cfg(test)]

@@ -1,6 +1,7 @@
 //! The calls as document 01 and requests 3, 5 and 6 of document 02 state them,
-//! on slices.
+//! and that on alternatives, on slices.
 
+use crate::apart;
 use crate::notation;
 use crate::order;
 use crate::pairs::{self, Pair};
@@ -153,6 +154,10 @@ pub fn trace_compile(text: &[u8], out: &mut [u8]) -> u64 {
 
 pub fn trace_order(tokens: &[u8], pairs: &[Pair]) -> u64 {
     pack(ordered(tokens, pairs))
+}
+
+pub fn trace_apart(table: &[u8], record: u64) -> u64 {
+    pack(open(table, record).map(|(table, k)| u64::from(apart::apart(&table, k))))
 }
 
 /// Refusals 1 to 6, then 9.

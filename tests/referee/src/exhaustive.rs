@@ -9,8 +9,8 @@ use referee::rivals::rivals;
 use referee::table::{Letter, Table};
 use referee::value::RECORD;
 
-/// Cases A to J, the edges, Other, empty tagged parts, texts, pairs of names and
-/// pages, against stated answers.
+/// Cases A to J, the edges, Other, empty tagged parts, texts, pairs of names, pages
+/// and alternatives, against stated answers.
 pub fn bench(h: &mut Harness) {
     for case in stated() {
         h.from(format!("case {}", case.name));

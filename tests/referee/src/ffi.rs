@@ -74,6 +74,7 @@ extern "C" {
         out: *mut u8,
         out_len: usize,
     ) -> u64;
+    fn trace_apart(table: *const u8, table_len: usize, record: u64) -> u64;
     pub fn trace_live_new(line: *mut Line, table: *const u8, table_len: usize, start: u64) -> u64;
     pub fn trace_live_add(line: *mut Line, byte: u8, work: *mut u8, work_len: usize) -> u64;
     pub fn trace_live_take_back(line: *mut Line, work: *mut u8, work_len: usize) -> u64;
@@ -169,8 +170,7 @@ fn expected(reader: &mut Reader, case: &Case, lending: Lending) -> (u64, Vec<u8>
 /// What the referee answers: the number and the bytes it writes.
 pub fn answer(reader: &mut Reader, case: &Case) -> (u64, Vec<u8>) {
     let (number, mut out) = expected(reader, case, Lending::Guarded);
-    let len = if number >> 32 == 0 { number as usize * case.request.width() } else { 0 };
-    out.truncate(len);
+    out.truncate(written_len(case, number));
     (number, out)
 }
 
@@ -294,11 +294,35 @@ fn ask(case: &Case, lending: Lending) -> (u64, Vec<u8>, Option<&'static str>) {
             }
             number
         }
+        Request::Apart { table, record } => {
+            let t = table.clone();
+            let number = unsafe { trace_apart(t.as_ptr(), t.len(), *record) };
+            if t != *table {
+                fault = Some("the table was changed");
+            }
+            number
+        }
     };
     if !out.guards_hold() {
         fault = Some("a byte beside the output buffer was changed");
     }
     (number, out.inside().to_vec(), fault)
+}
+
+/// What the library answers: the number and the bytes it writes.
+pub fn library(case: &Case, lending: Lending) -> (u64, Vec<u8>) {
+    let (number, mut out, _) = ask(case, lending);
+    out.truncate(written_len(case, number));
+    (number, out)
+}
+
+/// How many bytes an answer writes.
+fn written_len(case: &Case, number: u64) -> usize {
+    if number >> 32 == 0 {
+        number as usize * case.request.width()
+    } else {
+        0
+    }
 }
 
 /// The one that an answer names, and the refusal's number, 0 for a result.

@@ -14,8 +14,8 @@ use std::collections::BTreeMap;
 use std::time::Instant;
 
 /// The answers met: the call, the refusal number (0 for a result), in Compare
-/// the result or the detail, in Order whether a pair was broken, and of a live
-/// line the facts. Page is one call for each that it names.
+/// the result or the detail, in Order whether a pair was broken, in Apart the
+/// result, and of a live line the facts. Page is one call for each that it names.
 type Met = BTreeMap<(&'static str, u64, u64), u64>;
 
 /// Page, by the one that is named.
@@ -34,6 +34,7 @@ const ANSWERS: &[(&str, &[u64])] = &[
     (PAGE[1], &[1, 2, 3, 4, 5, 6, 9]),
     (PAGE[2], &[1, 2, 3, 4, 5, 6, 9]),
     (PAGE[3], &[7, 8, 10, 11]),
+    ("apart", &[0, 1, 2, 3, 4, 5, 6, 9]),
     ("live_new", &[0, 1, 2, 3, 4, 5, 6, 9]),
     ("live_add", &[0, 1, 2, 3, 4, 5, 6, 7, 9, 10]),
     ("live_take_back", &[0, 1, 2, 3, 4, 5, 6, 7, 9, 10, 19]),
@@ -97,6 +98,21 @@ impl Harness {
         }
     }
 
+    /// What the library answers and writes, for what is said of several of its
+    /// answers together.
+    pub fn library(&mut self, request: Request, out_len: usize) -> (u64, Vec<u8>) {
+        let case = self.case(request, out_len);
+        ffi::library(&case, self.lending)
+    }
+
+    /// Stops at something said of several answers that is not so, with the bytes
+    /// that it is said of by their names.
+    pub fn stop(&self, message: &str, bytes: &[(&str, &[u8])]) -> ! {
+        println!("FAILED in {}: {message}", self.origin);
+        bytes.iter().for_each(|(name, bytes)| println!("{name:<7} {}", hex(bytes)));
+        std::process::exit(1);
+    }
+
     fn case(&mut self, request: Request, out_len: usize) -> Case {
         self.comparisons += 1;
         Case { request, out_len, seed: (self.comparisons % 256) as u8 }
@@ -152,7 +168,7 @@ impl Harness {
             _ => call_name(request),
         };
         let rest = match (request, refusal) {
-            (Request::Compare { .. }, 0 | 12) => rest,
+            (Request::Compare { .. }, 0 | 12) | (Request::Apart { .. }, 0) => rest,
             (Request::Order { tokens, .. }, 0) => u64::from(number < tokens.len() as u64 / 3),
             _ => 0,
         };
@@ -167,7 +183,7 @@ impl Harness {
             for &refusal in refusals {
                 let kinds: &[u64] = match (call, refusal) {
                     ("compare", 0) => &[0, 1, 2],
-                    ("compare", 12) | ("order", 0) => &[0, 1],
+                    ("compare", 12) | ("order" | "apart", 0) => &[0, 1],
                     ("live_add" | "live_take_back", 0) => &[0, 2, 3],
                     _ => &[0],
                 };
@@ -216,6 +232,7 @@ fn call_name(request: &Request) -> &'static str {
         Request::Compile { .. } => "compile",
         Request::Order { .. } => "order",
         Request::Page(_) => PAGE[0],
+        Request::Apart { .. } => "apart",
     }
 }
 
@@ -251,6 +268,10 @@ pub fn compile(text: &[u8]) -> Request {
 pub fn page(by_lines: &Rules, by_runs: &Rules, text: &[u8], rooms: Rooms) -> Request {
     let (by_lines, by_runs) = (by_lines.clone(), by_runs.clone());
     Request::Page(Page { by_lines, by_runs, text: text.to_vec(), rooms })
+}
+
+pub fn apart(table: &[u8], record: u64) -> Request {
+    Request::Apart { table: table.to_vec(), record }
 }
 
 pub fn order(tokens: &[u8], pairs: &[Pair]) -> Request {

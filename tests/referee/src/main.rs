@@ -6,9 +6,11 @@
 //! referee order                the part of the gate on Order
 //! referee live                 the part of the gate on live lines
 //! referee page                 the part of the gate on pages
+//! referee apart                the part of the gate on alternatives
 //! referee stack                deepest nestings on a stack of 1 MiB
 //! referee memcheck             exactly sized buffers, for valgrind
 
+mod alternatives;
 mod exhaustive;
 mod ffi;
 mod harness;
@@ -39,6 +41,7 @@ const TEXT: Round = ("text", texts::round);
 const LIST: Round = ("list", lists::round);
 const LIVE: Round = ("live line", typing::round);
 const PAGE: Round = ("page", pages::round);
+const APART: Round = ("alternatives", alternatives::round);
 
 /// Rounds of each size, so many of them, each from a seed of its own; and the
 /// name of that part.
@@ -81,6 +84,7 @@ fn gate() -> bool {
     order(&mut h);
     live(&mut h);
     page(&mut h);
+    apart(&mut h);
     h.coverage()
 }
 
@@ -166,6 +170,21 @@ fn page(h: &mut Harness) {
     rounds(h, PAGE, parts);
 }
 
+fn apart(h: &mut Harness) {
+    alternatives::small(h, 5);
+    h.done("alternatives in all tables of up to 5 records");
+    alternatives::bytes(h);
+    h.done("alternatives of every two bytes");
+    alternatives::numbers(h);
+    h.done("alternatives in tables of every length");
+    let parts = [
+        (8000, "alternatives in random small tables"),
+        (400, "alternatives in random tables of up to 61 records"),
+        (30, "alternatives in random tables of up to 255 records"),
+    ];
+    rounds(h, APART, parts);
+}
+
 fn soak(seconds: u64, seed: u64) {
     let end = Instant::now() + Duration::from_secs(seconds);
     let mut h = Harness::new(Lending::Guarded);
@@ -181,6 +200,7 @@ fn soak(seconds: u64, seed: u64) {
         one_round(&mut h, LIST, size, seed, i);
         one_round(&mut h, LIVE, size, seed, i);
         one_round(&mut h, PAGE, size, seed, i);
+        one_round(&mut h, APART, size, seed, i);
         i += 1;
     }
     h.done(&format!("soak, {i} rounds of seed {seed}"));
@@ -196,6 +216,7 @@ fn run(arguments: &[String]) -> bool {
         ["order"] => order(&mut Harness::new(Lending::Guarded)),
         ["live"] => live(&mut Harness::new(Lending::Guarded)),
         ["page"] => page(&mut Harness::new(Lending::Guarded)),
+        ["apart"] => apart(&mut Harness::new(Lending::Guarded)),
         ["stack"] => stack::run(),
         ["memcheck"] => memcheck::run(),
         ["soak", seconds] => match number(seconds) {
@@ -219,7 +240,7 @@ fn main() {
         Ok(true) => {}
         Ok(false) => {
             eprintln!(
-                "usage: referee gate | soak SECONDS [SEED] | notation | order | live | page | stack | memcheck"
+                "usage: referee gate | soak SECONDS [SEED] | notation | order | live | page | apart | stack | memcheck"
             );
             std::process::exit(2);
         }

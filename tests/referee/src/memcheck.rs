@@ -1,6 +1,7 @@
 //! A few hundred random inputs in exactly sized heap allocations, to be run
 //! under a memory checker.
 
+use crate::alternatives;
 use crate::exhaustive;
 use crate::ffi::Lending;
 use crate::harness::Harness;
@@ -73,4 +74,10 @@ pub fn run() {
         pages::round(&mut h, &mut rng, if i % 8 == 7 { Size::Medium } else { Size::Small });
     }
     h.done("memory, pages");
+    alternatives::torn(&mut h);
+    for i in 0..16 {
+        h.from(format!("memory, alternatives round {i}"));
+        alternatives::round(&mut h, &mut rng, if i % 8 == 7 { Size::Medium } else { Size::Small });
+    }
+    h.done("memory, alternatives");
 }

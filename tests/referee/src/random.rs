@@ -308,6 +308,11 @@ impl<'a> Grower<'a> {
         Grower { table, any, some }
     }
 
+    /// Whether record k spells any line.
+    pub fn spells_some(&self, k: usize) -> bool {
+        self.any[k]
+    }
+
     fn can(&self, k: usize, full: bool) -> bool {
         if full {
             self.some[k]
@@ -571,12 +576,17 @@ pub fn tagged(table: &Table, mask: usize) -> Table {
 
 /// All lines over the letters a and b of up to so many bytes.
 pub fn all_lines(longest: usize) -> Vec<Vec<u8>> {
+    lines_over(&[0x61, 0x62], longest)
+}
+
+/// All lines over these bytes of up to so many of them.
+pub fn lines_over(bytes: &[u8], longest: usize) -> Vec<Vec<u8>> {
     let mut lines = vec![vec![]];
     let mut from = 0;
     for _ in 0..longest {
         let to = lines.len();
         for i in from..to {
-            for c in [0x61, 0x62] {
+            for &c in bytes {
                 let mut line: Vec<u8> = lines[i].clone();
                 line.push(c);
                 lines.push(line);

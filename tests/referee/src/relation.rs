@@ -133,6 +133,19 @@ fn run(
     answer
 }
 
+/// Which lines the records of a table spell.
+pub struct Spelling(Automaton);
+
+impl Spelling {
+    pub fn new(table: &Table) -> Self {
+        Spelling(Automaton::new(table))
+    }
+
+    pub fn spells(&self, k: usize, line: &[u8]) -> bool {
+        self.0.spells(k, line)
+    }
+}
+
 /// Chooses among ways to go on, given best first, by their count.
 pub type Pick<'a> = &'a mut dyn FnMut(usize) -> usize;
 

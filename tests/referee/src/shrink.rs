@@ -78,6 +78,7 @@ fn small_requests(case: &Case, table: &Table, line: &[u8]) -> Vec<Request> {
         | Request::Compile { .. }
         | Request::Order { .. }
         | Request::Page(_) => vec![],
+        Request::Apart { .. } => vec![harness::apart(&bytes, start)],
         Request::Read { .. } => {
             vec![harness::read(&bytes, start, line, work_need(k + 1, line.len()))]
         }
@@ -108,7 +109,7 @@ fn small_readings(table: &Table, k: usize, line: &[u8]) -> Vec<Vec<u8>> {
 
 fn weight(case: &Case) -> (usize, usize, usize, usize) {
     let (table, bytes, work) = match &case.request {
-        Request::Check { table } => (table, 0, 0),
+        Request::Check { table } | Request::Apart { table, .. } => (table, 0, 0),
         Request::Read { table, line, work_len, .. } => (table, line.len(), *work_len),
         Request::Spell { table, reading, .. } | Request::Tokens { table, reading, .. } => {
             (table, reading.len(), 0)
@@ -127,6 +128,7 @@ fn weight(case: &Case) -> (usize, usize, usize, usize) {
 fn parts(case: &Case) -> (Vec<u8>, u64, Vec<Vec<u8>>) {
     match &case.request {
         Request::Check { table } => (table.clone(), 0, vec![]),
+        Request::Apart { table, record } => (table.clone(), *record, vec![]),
         Request::Read { table, start, line, .. } => (table.clone(), *start, vec![line.clone()]),
         Request::Spell { table, start, reading } | Request::Tokens { table, start, reading } => {
             (table.clone(), *start, vec![reading.clone()])
@@ -151,6 +153,7 @@ fn parts(case: &Case) -> (Vec<u8>, u64, Vec<Vec<u8>>) {
 fn with(case: &Case, table: Vec<u8>, start: u64, mut lists: Vec<Vec<u8>>) -> Case {
     let request = match &case.request {
         Request::Check { .. } => Request::Check { table },
+        Request::Apart { .. } => Request::Apart { table, record: start },
         Request::Read { table: old, line: old_line, work_len, .. } => {
             let line = lists.remove(0);
             let need = work_need(table.len() / 4, line.len());
@@ -285,8 +288,10 @@ fn without(table: &Table, gone: usize, start: u64) -> (Vec<u8>, u64) {
 /// Steps that keep fitting readings fitting: into a child of the start record
 /// with all readings at once, and one iteration less.
 fn in_step(table: &Table, case: &Case, start: u64, lists: &[Vec<u8>], all: &mut Vec<Case>) {
-    let with_readings =
-        !matches!(case.request, Request::Read { .. } | Request::Check { .. } | Request::Page(_));
+    let with_readings = matches!(
+        case.request,
+        Request::Spell { .. } | Request::Tokens { .. } | Request::Compare { .. }
+    );
     if !with_readings {
         return;
     }
@@ -390,13 +395,15 @@ pub fn show(case: &Case) -> String {
         Request::Compile { .. } => ("compile", &["text"]),
         Request::Order { .. } => ("order", &["tokens", "pairs"]),
         Request::Page(_) => ("page", &["page", "runs"]),
+        Request::Apart { .. } => ("apart", &[]),
     };
     let mut text = format!("call    {call}\n");
     if !matches!(call, "compile" | "order") {
         text += &format!("table   {}\n", hex(&table));
     }
     if !matches!(call, "check" | "compile" | "order") {
-        text += &format!("start   {start}\n");
+        let word = if call == "apart" { "record" } else { "start" };
+        text += &format!("{word:<7} {start}\n");
     }
     for (name, bytes) in names.iter().zip(&lists) {
         text += &format!("{name:<7} {}\n", hex(bytes));
@@ -412,7 +419,7 @@ pub fn show(case: &Case) -> String {
     {
         text += &format!("as text {}\n", bytes.escape_ascii());
     }
-    if !matches!(call, "check" | "compare" | "order") {
+    if !matches!(call, "check" | "compare" | "order" | "apart") {
         text += &format!("buffer  {} bytes\n", case.out_len);
     }
     text

@@ -4,7 +4,7 @@
 //! library's.
 
 use crate::ffi::Lending;
-use crate::harness::{check, compare, compile, order, page, read, spell, tokens, Harness};
+use crate::harness::{apart, check, compare, compile, order, page, read, spell, tokens, Harness};
 use crate::pages::{each_class, last};
 use crate::typing;
 use referee::bench::refusal;
@@ -452,9 +452,40 @@ fn long_pages(h: &mut Harness) {
     put(&[&line(1).repeat(254)[..], b"a`"].concat(), rooms, of_line(8, 254), &[]);
 }
 
+/// Alternatives of which one is as deep as can be, and the other one letter; and
+/// every Or of the deepest ones.
+fn deep_alternatives(h: &mut Harness) {
+    let deep = |seq, left| Table { records: comb(seq, left).records[..253].to_vec() };
+    let sides = [
+        ("252 Stars", star_nest(LETTERS[0], 253, 0)),
+        ("126 Seq to the left", deep(true, true)),
+        ("126 Seq to the right", deep(true, false)),
+        ("126 Or to the left", deep(false, true)),
+        ("126 Or to the right", deep(false, false)),
+    ];
+    for (name, side) in sides {
+        h.from(format!("{name}, or a letter"));
+        for (byte, number) in [(0x61, 0), (0x60, 1)] {
+            let letter = Letter::range(byte, byte);
+            for kind in [Kind::Or(252, 253), Kind::Or(253, 252)] {
+                let mut table = side.clone();
+                table.records.push(Record { kind: Kind::Letter(letter), tag: 0 });
+                table.records.push(Record { kind, tag: 0 });
+                h.put_known(apart(&table.bytes(), 254), 0, number, &[]);
+                h.put_known(apart(&table.bytes(), 255), 0, refusal(9), &[]);
+            }
+        }
+    }
+    for left in [true, false] {
+        h.from("every Or of 127");
+        let table = comb(false, left).bytes();
+        (0..255).for_each(|k| h.put_known(apart(&table, k), 0, 0, &[]));
+    }
+}
+
 pub fn run() {
     type Part = fn(&mut Harness);
-    let parts: [(&str, Part); 8] = [
+    let parts: [(&str, Part); 9] = [
         ("stack of 1 MiB, nests of Stars", stars),
         ("stack of 1 MiB, readings of over 16 MB", millions),
         ("stack of 1 MiB, combs of Or and Seq", combs),
@@ -463,6 +494,7 @@ pub fn run() {
         ("stack of 1 MiB, lists of 4,000,000 tokens", token_lists),
         ("stack of 1 MiB, live lines", live_lines),
         ("stack of 1 MiB, pages", long_pages),
+        ("stack of 1 MiB, alternatives", deep_alternatives),
     ];
     for (name, part) in parts {
         let thread = std::thread::Builder::new().stack_size(STACK).spawn(move || {
