@@ -17,22 +17,22 @@
 
 #include <trace.h>
 
-/* The tokens of a line such as "12:02 lift 30g31", and the parts of a lap. */
+/* The tokens of a line such as "10:00 lift 30g31", and the parts of a lap. */
 static const char *const line_names[256] = {['p'] = "platform", ['l'] = "lift", ['b'] = "brake", ['t'] = "temperature", ['g'] = "gust"};
 static const char *const lap_names[256] = {[1] = "departure", [2] = "climb", [3] = "braking", [4] = "arrival"};
 
 /* A lap begins and ends at a platform; between them are lines of the lift, at least one, and then of the brake, at least one. */
-static const char line_rule[] = "[0-9][0-9]:[0-9][0-9] ((platform)#112|(lift)#108|(brake)#098) ([0-9][0-9]*)#116(g[0-9][0-9]*|())#103";
+static const char line_rule[] = "[0-9][0-9]*:[0-9][0-9] ((platform)#112|(lift)#108|(brake)#098) ([0-9][0-9]*)#116(g[0-9][0-9]*|())#103";
 static const char lap_rule[] = "p#001(ll*)#002(bb*)#003p#004";
-static const char sample[] = "12:00 platform 2\n"
-                             "12:01 lift 29\n"
-                             "12:01 lift 31\n"
-                             "12:02 lift 30g31\n"
-                             "12:02 lift 30g35\n"
-                             "12:03 lift 31\n"
-                             "12:04 brake 104\n"
-                             "12:04 brake 98\n"
-                             "12:05 platform 2\n";
+static const char sample[] = "9:57 platform 2\n"
+                             "9:58 lift 29\n"
+                             "9:58 lift 31\n"
+                             "9:59 lift 31\n"
+                             "10:00 lift 31\n"
+                             "10:00 lift 30g31\n"
+                             "10:01 brake 104\n"
+                             "10:01 brake 98\n"
+                             "10:02 platform 2\n";
 
 /* A rule's table, whose last record is the start record; the names of its tokens; and what it is called in messages. */
 typedef struct {
@@ -104,22 +104,27 @@ static void show_name(const Rules *rules, uint8_t name)
         printf("%d", name);
 }
 
+/* A line, which is a part of the lap, and its tokens. */
+typedef struct { const uint8_t *text, *tokens; size_t count; } Line;
+
 /* Lists a line's tokens, as trace_page does. It is asked only of lines that were not refused there. */
-static size_t list_tokens(const uint8_t *line, size_t length, Buffer tokens)
+static Line list_tokens(const uint8_t *line, size_t length, Buffer tokens)
 {
     uint64_t answer = trace_read(lines.table, lines.table_len, lines.start, line, length, work.bytes, work.room, reading.bytes, reading.room);
-    return (size_t)trace_tokens(lines.table, lines.table_len, lines.start, reading.bytes, TRACE_READING_RECORD * (size_t)answer, tokens.bytes,
-                                tokens.room);
+    answer = trace_tokens(lines.table, lines.table_len, lines.start, reading.bytes, TRACE_READING_RECORD * (size_t)answer, tokens.bytes, tokens.room);
+    return (Line){line, tokens.bytes, (size_t)answer};
 }
 
-/* Neighbouring lines are alike if their tokens have the same names in the same order. */
-static int alike(Buffer one, size_t ones, Buffer two, size_t twos)
+/* Neighbouring lines are alike if their tokens have the same names in the same order, and each token the same bytes of text. */
+static int alike(Line one, Line two)
 {
-    if (ones != twos)
+    if (one.count != two.count)
         return 0;
-    for (size_t i = 0; i < ones; i++)
-        if (one.bytes[TRACE_TOKEN * i] != two.bytes[TRACE_TOKEN * i])
+    for (size_t i = 0; i < TRACE_TOKEN * one.count; i += TRACE_TOKEN) {
+        const uint8_t *a = one.tokens + i, *b = two.tokens + i;
+        if (a[0] != b[0] || a[2] != b[2] || memcmp(one.text + a[1], two.text + b[1], a[2]) != 0)
             return 0;
+    }
     return 1;
 }
 
@@ -129,18 +134,18 @@ static size_t begins[TRACE_MAX_LINES + 1], runs;
 /* Shows the first lines of a lap, and finds the runs. */
 static void show_lines(const uint8_t *lap, size_t length, size_t most)
 {
-    size_t number = 0, before = 0;
+    size_t number = 0;
+    Line before = {NULL, NULL, 0};
     for (size_t at = 0, end; at < length && number < most; at = end + 1, number++) {
         const uint8_t *newline = memchr(lap + at, '\n', length - at);
         end = newline == NULL ? length : (size_t)(newline - lap);
-        Buffer own = number % 2 ? second : first, other = number % 2 ? first : second;
-        size_t count = list_tokens(lap + at, end - at, own);
-        if (number == 0 || !alike(own, count, other, before))
+        Line line = list_tokens(lap + at, end - at, number % 2 ? second : first);
+        if (number == 0 || !alike(line, before))
             begins[runs++] = number;
-        before = count;
+        before = line;
         printf("line %zu: ", number + 1);
-        if (count > 0)
-            show_name(&lines, own.bytes[0]);
+        if (line.count > 0)
+            show_name(&lines, line.tokens[0]);
         else
             printf("no token");
         printf(", run %zu: ", runs);

@@ -31,9 +31,9 @@
 extern "C" {
 #endif
 
-/* The version, as numbers and as text ("3.3.0"). Another major number says that a format or a call's result has changed. */
-#define TRACE_VERSION_MAJOR 3
-#define TRACE_VERSION_MINOR 3
+/* The version, as numbers and as text ("4.0.0"). Another major number says that a format or a call's result has changed. */
+#define TRACE_VERSION_MAJOR 4
+#define TRACE_VERSION_MINOR 0
 #define TRACE_VERSION_PATCH 0
 #define TRACE_TEXT_OF(macro) TRACE_TEXT(macro)
 #define TRACE_TEXT(word) #word
@@ -274,10 +274,10 @@ uint64_t trace_live_take_back(trace_live *line, uint8_t *work, size_t work_len);
 /*
  * Reads a page: up to TRACE_MAX_LINES lines, each ended by a byte 10, which the last may lack. A byte 10 that ends the page opens no further line,
  * and a page without bytes has no line. Each line is read by the line rules, line_table and line_start, and its tokens are listed. Its class is its
- * first token's name, or 0 if it has no token. Neighbouring lines are alike if their tokens have the same names in the same order; a run of alike
- * lines counts as its first line. So there is one class byte for each run. The class bytes, in order, are then read as a line by the page rules,
- * page_table and page_start: the reading is written to the front of out, and the later bytes are left. Result: the reading's number of records, 4
- * bytes each.
+ * first token's name, or 0 if it has no token. Neighbouring lines are alike if their tokens have the same names in the same order, and each token the
+ * same bytes of text; offsets do not count, nor do bytes that are in no token. A run of alike lines counts as its first line. So there is one class
+ * byte for each run. The class bytes, in order, are then read as a line by the page rules, page_table and page_start: the reading is written to the
+ * front of out, and the later bytes are left. Result: the reading's number of records, 4 bytes each.
  *
  * The reading of each line goes to reading, and its tokens to first for lines 0, 2, 4 and so on, to second for the others. Buffers that are always
  * long enough, for lines of up to n bytes, line_records and page_records:

@@ -630,7 +630,7 @@ static void classes_of(const char *name, Bytes text, Bytes classes)
     read_page(name, letters, one_each, text, classes.length, each_class(classes));
 }
 
-/* Each form of a page and of its lines, and the class bytes. Which lines are alike stands here and nowhere else in this file. */
+/* Each form of a page and of its lines, and the class bytes. Which lines are alike stands here and in page_texts. */
 static void page_classes(void)
 {
     classes_of("no byte", empty, empty);
@@ -654,8 +654,8 @@ static void page_classes(void)
     classes_of("the last name another", TEXT("aab\naad"), BYTES(1, 1));
     classes_of("the first name another", TEXT("abb\nbbb"), BYTES(1, 2));
     classes_of("other offsets", TEXT("ab\ncab\nccacbc"), BYTES(1));
-    classes_of("other lengths", TEXT("d\ndd\nddd"), BYTES(3));
-    classes_of("other lengths and offsets", TEXT("da\nddca"), BYTES(3));
+    classes_of("other lengths", TEXT("d\ndd\nddd"), BYTES(3, 3, 3));
+    classes_of("other lengths and offsets", TEXT("da\nddca"), BYTES(3, 3));
     classes_of("no token", TEXT("c"), BYTES(0));
     classes_of("no token, and no byte", TEXT("c\n\ncc\n"), BYTES(0));
     classes_of("no token between", TEXT("a\nc\na"), BYTES(1, 0, 1));
@@ -670,20 +670,100 @@ static void page_classes(void)
     classes_of("the third as the second", TEXT("ab\nb\nb"), BYTES(1, 2));
 }
 
+/* Two lines with these classes, each twice and in both orders, that are alike or not. */
+static void two_lines(const char *name, Rules lines, Bytes one, Bytes two, uint8_t first, uint8_t second, int alike)
+{
+    uint8_t text[5 * (TRACE_MAX_LINE + 1)], classes[] = {first, second, first};
+    Bytes parts[] = {one, one, two, two, one};
+    size_t length = 0;
+    for (size_t i = 0; i < sizeof parts / sizeof *parts; i++) {
+        memcpy(text + length, parts[i].at, parts[i].length), length += parts[i].length;
+        text[length++] = '\n';
+    }
+    Bytes want = {classes, alike ? 1 : 3};
+    read_page(name, lines, one_each, (Bytes){text, length}, want.length, each_class(want));
+}
+
+/* Texts: lines whose names are the same, and others with the same texts. */
+static void page_texts(void)
+{
+    static uint8_t table[TRACE_MAX_TABLE], one_table[TRACE_MAX_TABLE];
+    static const struct { const char *name, *one, *two; int alike; } cases[] = {
+        {"29 and 31", "29", "31", 0},
+        {"29 and 290", "29", "290", 0},
+        {"29 and 129", "29", "129", 0},
+        {"the same text", "29", "29", 1},
+        {"the same text at another offset", "29", "--29", 1},
+        {"the same text, more behind it", "29", "29--", 1},
+        {"the same texts at other offsets", "1+2", "-1--2-", 1},
+        {"other bytes outside the tokens", "1+2", "1-2", 1},
+        {"no token, other bytes", "+", "--", 1},
+        {"the second text another", "1+2", "1+3", 0},
+        {"the first text another", "1+2", "3+2", 0},
+        {"the text between another", "1+2+3", "1+4+3", 0},
+        {"the third text another", "1+2+3", "1+2+4", 0},
+        {"the texts in another order", "1+2", "2+1", 0},
+        {"the bytes of a text in another order", "12", "21", 0},
+        {"the texts one behind the other the same", "12+3", "1+23", 0},
+        {"one token more with the same bytes", "12", "1+2", 0},
+        {"the first byte another", "123", "423", 0},
+        {"the byte inside another", "123", "143", 0},
+        {"the last byte another", "123", "124", 0},
+        {"other lengths, each text in the other", "1+11", "11+1", 0},
+        {"the same texts in another order at other offsets", "+29+31", "31+29", 0},
+        {"a text of which the other has a byte more at an earlier offset", "-12", "123", 0},
+    };
+    Rules lines = compiled(TEXT("(([0-9][0-9]*)#001|+|-)*"), table);
+    for (size_t i = 0; i < sizeof cases / sizeof *cases; i++) {
+        Bytes one = {(const uint8_t *)cases[i].one, strlen(cases[i].one)}, two = {(const uint8_t *)cases[i].two, strlen(cases[i].two)};
+        uint8_t class = strpbrk(cases[i].one, "123456789") ? 1 : 0;
+        two_lines(cases[i].name, lines, one, two, class, class, cases[i].alike);
+    }
+    /* one text by two names: behind a + it has the other; names that differ in the highest bit; the second token alone */
+    lines = compiled(TEXT("(([0-9])#001|+([0-9])#002|-([0-9])#129)*"), table);
+    two_lines("the same text, another name", lines, TEXT("1"), TEXT("+1"), 1, 2, 0);
+    two_lines("the same text, a name with another highest bit", lines, TEXT("1"), TEXT("-1"), 1, 129, 0);
+    two_lines("the same texts, the second name another", lines, TEXT("12"), TEXT("1+2"), 1, 1, 0);
+
+    /* a line is one token: every byte against others, and every length with another byte at each end and inside */
+    Rules whole = compiled(TEXT("[\0-\xff]*#007"), one_table);
+    for (int c = 0; c < 256; c++) {
+        uint8_t byte = (uint8_t)c, others[] = {(uint8_t)(c ^ 128), (uint8_t)(c + 1), 0, 255};
+        for (size_t i = 0; i < sizeof others && c != '\n'; i++)
+            if (others[i] != '\n')
+                two_lines("two bytes", whole, BYTES('a', byte, 'a'), BYTES('a', others[i], 'a'), 7, 7, byte == others[i]);
+        if (c != '\n')
+            two_lines("the byte behind one", whole, BYTES(byte, 'a'), BYTES(byte, 'b'), 7, 7, 0);
+    }
+    for (size_t length = 1; length <= TRACE_MAX_LINE; length += length < 250 ? 83 : 1) {
+        uint8_t one[TRACE_MAX_LINE], two[TRACE_MAX_LINE];
+        memset(one, 'a', sizeof one);
+        two_lines("the same long text", whole, (Bytes){one, length}, (Bytes){one, length}, 7, 7, 1);
+        if (length > 1)
+            two_lines("a byte less", whole, (Bytes){one, length}, (Bytes){one, length - 1}, 7, 7, 0);
+        for (size_t i = 0; i < 3; i++) {
+            memcpy(two, one, sizeof two);
+            two[i * (length - 1) / 2] = 'b';
+            two_lines("one byte of a long text another", whole, (Bytes){one, length}, (Bytes){two, length}, 7, 7, 0);
+        }
+    }
+}
+
 /* The tokens of the page's own reading, and page rules that choose: the worked example of docs/FORMATS.md. */
 static void page_worked(void)
 {
     static uint8_t line_table[TRACE_MAX_TABLE], page_table[TRACE_MAX_TABLE];
     Rules lines = compiled(TEXT("[0-9][0-9]:[0-9][0-9] ((lift)#108|(brake)#098) ([0-9][0-9]*)#116"), line_table);
     Rules runs = compiled(TEXT("l*#001b#002"), page_table);
-    Bytes lap = TEXT("12:04 lift 29\n12:05 lift 31\n12:06 brake 104\n"), reading = BYTES(R(4, 0, 2, 3), R(5, 1, 1, 1), R(1, 'l', 1, 0), R(1, 'b', 1, 2));
+    Bytes lap = TEXT("12:04 lift 29\n12:05 lift 31\n12:06 lift 31\n12:07 brake 104\n");
+    Bytes reading = BYTES(R(4, 0, 3, 3), R(5, 2, 2, 1), R(1, 'l', 1, 0), R(1, 'l', 1, 0), R(1, 'b', 1, 2));
     expect("the lap, its line rules", lines.table.length, 144);
     expect("the lap, its page rules", runs.table.length, 16);
-    read_page("the lap", lines, runs, lap, 2, reading);
-    tokens("the lap", runs.table, runs.start, reading, 6, 2, BYTES(1, 0, 1, 2, 1, 1));
-    page("the lap, line 1 by 8", lines, runs, TEXT("12:04 lift 29\n12:05 lift\n12:06 brake 104\n"), ample, NAMED(3, 8, 1), empty);
-    page("the lap without a brake", lines, runs, TEXT("12:04 lift 29\n12:05 lift 31\n"), ample, REFUSED(8, 0), empty);
-    page("the lap, no room for its reading", lines, runs, lap, (Rooms){{400000, 12000, 800, 800, 15}}, REFUSED(11, 16), empty);
+    read_page("the lap", lines, runs, lap, 3, reading);
+    tokens("the lap", runs.table, runs.start, reading, 6, 2, BYTES(1, 0, 2, 2, 2, 1));
+    page("the lap, line 1 by 8", lines, runs, TEXT("12:04 lift 29\n12:05 lift\n12:06 lift 31\n12:07 brake 104\n"), ample, NAMED(3, 8, 1), empty);
+    page("the lap without a brake", lines, runs, TEXT("12:04 lift 29\n12:05 lift 31\n12:06 lift 31\n"), ample, REFUSED(8, 0), empty);
+    page("the lap, no room for its reading", lines, runs, lap, (Rooms){{400000, 12000, 800, 800, 19}}, REFUSED(11, 20), empty);
     page("the lap without a line", lines, runs, empty, ample, REFUSED(8, 0), empty);
     page("no line, and page rules for it", lines, (Rules){runs.table, 1}, empty, ample, 1, BYTES(R(5, 0, 0, 1)));
 }
@@ -838,7 +918,7 @@ static void page_order(void)
     Rules one = {BYTES(6, 0, 0, 1), 0}, three_ones = compiled(TEXT("\x01\x01\x01"), page_table);
     page("10 of the page", one, three_ones, TEXT("a"), (Rooms){{14, 800, 3, 0, 0}}, REFUSED(10, 0), empty);
     page("8 of the page", one, three_ones, TEXT("a"), (Rooms){{15, 800, 3, 0, 0}}, REFUSED(8, 0), empty);
-    page("10 of the page goes by the runs", one, three_ones, TEXT("a\nb\nc\nd"), (Rooms){{15, 800, 3, 3, 0}}, REFUSED(8, 0), empty);
+    page("10 of the page goes by the runs", one, three_ones, TEXT("a\na\na\na"), (Rooms){{15, 800, 3, 3, 0}}, REFUSED(8, 0), empty);
     page("10 of the page without a line", one, three_ones, empty, (Rooms){{4, 0, 0, 0, 0}}, REFUSED(10, 0), empty);
     page("8 of the page without a line", one, three_ones, empty, (Rooms){{5, 0, 0, 0, 0}}, REFUSED(8, 0), empty);
     page("11 of the page without a line", one, one_each, empty, (Rooms){{2, 0, 0, 0, 3}}, REFUSED(11, 4), empty);
@@ -876,6 +956,7 @@ static void pages(void)
     letters = compiled(TEXT("(a#001|b#002|(dd*)#003|c)*"), letters_table);
     one_each = (Rules){BYTES(2, 0, 255, 0, 5, 0, 0, 0), 1};
     page_classes();
+    page_texts();
     page_worked();
     page_counts();
     page_long_lines();

@@ -54,13 +54,14 @@ laps() {
 lap=$1/lap
 diff examples/lap.expected <("$lap") || fail "other output than examples/lap.expected"
 lap_rules=('(l#108|b#098)([0-9]*)#116|-' '(ll*)#001(b*)#002')
-laps 'l1\nl2\nl\nb3\nb4' 0 'line 1: 108, run 1: l1\nline 2: 108, run 1: l2\nline 3: 108, run 2: l\nline 4: 98, run 3: b3\nline 5: 98, run 3: b4
-1: runs 1 to 2, lines 1 to 3\n2: run 3, lines 4 to 5'
-laps 'l1\nl2\n' 0 'line 1: 108, run 1: l1\nline 2: 108, run 1: l2\n1: run 1, lines 1 to 2'
+laps 'l1\nl1\nl2\nl\nb3\nb3' 0 'line 1: 108, run 1: l1\nline 2: 108, run 1: l1\nline 3: 108, run 2: l2\nline 4: 108, run 3: l\nline 5: 98, run 4: b3
+line 6: 98, run 4: b3\n1: runs 1 to 3, lines 1 to 4\n2: run 4, lines 5 to 6'
+laps 'l1\nl1\n' 0 'line 1: 108, run 1: l1\nline 2: 108, run 1: l1\n1: run 1, lines 1 to 2'
+laps 'l1\nl2\n' 0 'line 1: 108, run 1: l1\nline 2: 108, run 2: l2\n1: runs 1 to 2, lines 1 to 2'
 laps 'l1\n-\n' 1 'line 1: 108, run 1: l1\nline 2: no token, run 2: -\nthe lap: refused 8: the start record does not spell the line'
 laps '' 1 'the lap: refused 8: the start record does not spell the line'
 laps 'l1\n\nx' 1 'line 1: 108, run 1: l1\nline 2: refused 8: the start record does not spell the line'
-laps "l1\\nl2\\n$(printf '7%.0s' {1..256})" 1 'line 1: 108, run 1: l1\nline 2: 108, run 1: l2\nline 3: refused 7: the line is over 255 bytes long'
+laps "l1\\nl2\\n$(printf '7%.0s' {1..256})" 1 'line 1: 108, run 1: l1\nline 2: 108, run 2: l2\nline 3: refused 7: the line is over 255 bytes long'
 laps "$(printf 'l\\n%.0s' {1..256})" 1 'the lap: refused 20: the page has over 255 lines'
 lap_rules=('(l' l)
 laps l 1 'the line rule: refused 15: the text is outside the notation, or over 4,096 bytes long'

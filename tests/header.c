@@ -125,7 +125,7 @@ static uint64_t read_page(const char *page, size_t page_len, uint64_t line_start
 static void pages(void)
 {
     uint8_t out[8];
-    uint64_t answer = read_page("a\nb\n", 4, 0, 1, out, sizeof out);
+    uint64_t answer = read_page("a\na\n", 4, 0, 1, out, sizeof out);
     expect("a page", answer == 2 && trace_who(answer) == TRACE_WHO_PAGE && memcmp(out, "\5\1\1\1\1\7\1\0", sizeof out) == 0);
     expect("the work area of its lines and of its class bytes", trace_work_size(1, 1) == 3 && trace_work_size(2, 1) == 6 && TRACE_MAX_LINES == 255);
     answer = read_page("a\nc", 3, 0, 1, out, sizeof out);

@@ -278,10 +278,10 @@ done <<'LIST'
 247 page Page: a run counts twice
 248 page Page: lines of one class are alike
 249 page Page: lines with as many tokens are alike
-250 page Page: the order of the names does not count
-251 page Page: a line whose names begin as those of the one before is alike
-252 page Page: offsets and lengths count too
-253 page Page: the last names are not compared
+250 page Page: the order of the tokens does not count
+251 page Page: a line whose tokens begin as those of the one before is alike
+252 page Page: offsets count too
+253 page Page: the last tokens are not compared
 254 page Page: names are compared by 7 bits
 255 page Page: a line is compared with the one before the last
 256 page Page: a line is compared with the first of the page
@@ -384,4 +384,36 @@ done <<'LIST'
 353 stack Apart: records deeper than 64 levels are passed over
 354 apart Apart: the record number is taken by 8 bits
 355 apart Apart: the highest bit of the record number is passed over
+356 page Page: texts do not count
+357 page Page: names do not count
+358 page Page: of texts the lengths alone count
+359 page Page: only the first text is compared
+360 page Page: only the last text is compared
+361 page Page: all bytes of the lines count
+362 page Page: both texts are looked up in the line itself
+363 page Page: both texts are looked up in the line before
+364 page Page: the text of the line before is looked up at the offset of the line itself
+365 page Page: the text of the line is looked up at the offset of the one before
+366 page Page: texts are compared one behind the other, without their bounds
+367 page Page: only the first byte of a text is compared
+368 page Page: the last byte of a text is not compared
+369 page Page: texts are compared up to the shorter length
+370 page Page: the text of the line before is looked up one line too early
+371 page Page: texts are compared by 7 bits
+372 page Page: texts are compared up to a byte 0
+373 page Page: a text that begins as that of the line before is the same
+374 page Page: a text with which that of the line before begins is the same
+375 page Page: bytes of a text behind the 64th are not compared
+376 page Page: the last byte of a text of 255 is not compared
+377 page Page: texts from the third on are not compared
+378 page Page: the first text is not compared
+379 page Page: lines of other lengths are not alike
+380 page Page: the order of the texts does not count
+381 valgrind Page: reads past the end of a text
+382 page Page: lines without a token are alike only if they have the same bytes
+383 page Page: texts are compared by their lengths and the sums of their bytes
+384 page Page: texts are looked up from the start of the page
+385 page Page: the first byte of a text is not compared
+386 page Page: texts at other offsets are not compared
+387 page Page: texts of other lengths are the same
 LIST

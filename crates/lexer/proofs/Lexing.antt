@@ -10,7 +10,7 @@ use lib.Dec.{ltb}
 use lib.ListN.{length, take, drop, replicate, length-append, length-replicate}
 use lib.Seq.{take-at}
 use Rattle.regex.specs.Values.{flat, Reads}
-use Rattle.regex.specs.Decision.{Parsed, found}
+use Rattle.regex.specs.Decision.{Parsed, found, missing, parse}
 use Rattle.regex.proofs.Flats.{posix-flat, posix-reads}
 use Rattle.regex.proofs.Found.{parse-found}
 use Rattle.table.specs.declared.Refusal.{Refusal}
@@ -25,9 +25,10 @@ use Rattle.reading.specs.Calls.{ifPassed, ifFits, bytesOf}
 use Rattle.reading.proofs.Fitting.{reading-complete}
 use Rattle.reading.proofs.Lengths.{encode-length}
 use Rattle.reading.proofs.Admission.{Admitted, or-gives, start-gives, refusal-numbers}
-use Rattle.tokens.specs.Tokens.{Token, tokensFrom, tokenBytes}
+use Rattle.tokens.specs.Tokens.{Token, tokensFrom, tokenBytes, Inside}
 use Rattle.tokens.specs.Listed.{tokensSays, tokensLeaves}
 use Rattle.tokens.proofs.Counts.{tokens-count, bytes-count}
+use Rattle.tokens.proofs.Places.{tokens-inside}
 use Rattle.matcher.specs.Calls.{readSays, readLeaves, PosixWritten}
 use Rattle.matcher.proofs.Written.{read-writes, few-records}
 use Rattle.lexer.specs.Lexing.{readingTokens, tokensOf, lexSays, lexLeaves}
@@ -101,6 +102,15 @@ module _ {t : List ℕ} {k : ℕ} {s reading final : List ℕ} {n : ℕ} (x : Po
     pub front-left :
         {x : List ℕ} (bs list : List ℕ) → x ≡ tokensLeaves t k bs list → bs ≡ take (recordSize * n) final → x ≡ lexLeaves t k s work room list
     front-left bs list e f = e ∙ ap (λ (y : List ℕ). tokensLeaves t k y list) f ∙ tokens-left list
+
+-- every token of a line lies inside it
+pub line-inside : (t : List ℕ) (k : ℕ) (s : List ℕ) → Inside (length s) (tokensOf t k s)
+line-inside t k s = go (parse (expOf t k) s) refl
+  where
+    go : (p : Parsed) → parse (expOf t k) s ≡ p → Inside (length s) (readingTokens t k p)
+    go missing e = tt
+    go (found v) e =
+        rw (ap length (sym (posix-flat (parse-found (expOf t k) s v .0 e)))) (tokens-inside t k v)
 
 -- what is said and left is what Tokens says and leaves of the reading that Read wrote
 pub lex-by-tokens :

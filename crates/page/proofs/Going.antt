@@ -11,18 +11,20 @@ use Rattle.table.specs.declared.Refusal.{Refusal}
 use Rattle.table.specs.declared.Answer.the-variants.{Done, Refused}
 use Rattle.table.specs.Answers.{Said, gives, refuses, refusal, says}
 use Rattle.reading.proofs.Admission.{refusal-numbers}
-use Rattle.tokens.specs.Tokens.{consIf, tokenBytes}
+use Rattle.tokens.specs.Tokens.{Token, consIf, tokenBytes, Inside}
 use Rattle.lines.specs.Lines.{linesOf}
 use Rattle.lines.specs.Ends.{NextEnd}
 use Rattle.lines.proofs.Nexts.{lines-next, next-counted}
-use Rattle.lexer.specs.Lexing.{lexSays}
+use Rattle.lexer.specs.Lexing.{tokensOf, lexSays}
+use Rattle.lexer.proofs.Lexing.{line-inside}
 use Rattle.page.specs.declared.Step.{Step}
 use Rattle.page.specs.declared.Lines.the-variants as of
 use Rattle.page.specs.Entries.{Rules, Entry, entryOf, classOf}
 use Rattle.page.specs.Outcomes.{one-line, PageSaid, names, atLine}
 use Rattle.page.specs.Pages.{Sizes, byParity, ifTaken, lineSays, linesSay, entriesOf, classesOf}
-use Rattle.page.specs.Steps.{opensRun, classesFrom, Stepped, LinesRead}
+use Rattle.page.specs.Steps.{opensRun, classesFrom, Within, Stepped, LinesRead}
 use Rattle.page.proofs.Runs.{classes-from}
+use Rattle.page.proofs.Comparing.{inside-within}
 use Rattle.page.proofs.Parity.{parity-next, parity-length}
 
 -- the lengths of the buffers stay what they were
@@ -47,24 +49,33 @@ lengths-kept k a b c d e =
       of-classes = e ∙ k .of-classes;
     }
 
--- before the line that begins at a position: its number, the bytes of the tokens of the line before and the number of class bytes so far
-pub record Going (l : Rules) (z : Sizes) (page first second classes : List ℕ) (at number size count : ℕ) : Type 0 where
+-- before the line that begins at a position: where the line before begins and ends, the line's number, the bytes of the tokens of the line before and
+-- the number of class bytes so far
+pub record Going (l : Rules) (z : Sizes) (page first second classes : List ℕ) (start end at number size count : ℕ) : Type 0 where
   pub inside : at ≤ length page
+  pub behind : start ≤ end
+  pub ended : end ≤ length page
   pub numbered : number + length (linesOf (drop at page)) ≡ length (linesOf page)
   pub few : count ≤ number
-  pub before : Entry
+  pub before : List Token
+  pub within : Inside (length (take (end - start) (drop start page))) before
   pub held : size ≤ length (byParity number second first)
-  pub listed : take size (byParity number second first) ≡ tokenBytes (before .tokens)
-  pub classed : take count classes ++ classesFrom number before (entriesOf l (drop at page)) ≡ classesOf l page
+  pub listed : take size (byParity number second first) ≡ tokenBytes before
+  pub classed :
+      take count classes ++ classesFrom number (record { text = take (end - start) (drop start page); tokens = before }) (entriesOf l (drop at page))
+      ≡ classesOf l page
   pub said : (said : PageSaid) → linesSay l z 0 (linesOf page) said ≡ linesSay l z number (linesOf (drop at page)) said
 
-pub going-first : (l : Rules) (z : Sizes) (page first second classes : List ℕ) → Going l z page first second classes 0 0 0 0
+pub going-first : (l : Rules) (z : Sizes) (page first second classes : List ℕ) → Going l z page first second classes 0 0 0 0 0 0
 going-first l z page first second classes =
     record {
       inside = omega arith;
+      behind = omega arith;
+      ended = omega arith;
       numbered = omega arith;
       few = omega arith;
-      before = record { text = []; tokens = [] };
+      before = [];
+      within = tt;
       held = omega arith;
       listed = refl;
       classed = classes-from (record { text = []; tokens = [] }) (entriesOf l page);
@@ -85,8 +96,19 @@ turned-away a why said i e =
     rw (f, x .2)
 
 module _
-    {l : Rules} {z : Sizes} {page work reading first second classes : List ℕ} {at number size count : ℕ}
-    (g : Going l z page first second classes at number size count) (k : Lengths z work reading first second classes) where
+    {l : Rules} {z : Sizes} {page work reading first second classes : List ℕ} {start stop at number size count : ℕ}
+    (g : Going l z page first second classes start stop at number size count) (k : Lengths z work reading first second classes) where
+  -- the line before
+  abbrev prior : List ℕ
+  prior = take (stop - start) (drop start page)
+
+  abbrev last : Entry
+  last = record { text = prior; tokens = g .before }
+
+  -- its tokens lie inside it
+  pub prior-within : Within prior (take size (byParity number second first))
+  prior-within = inside-within prior (g .before) (g .listed) (g .within)
+
   -- after the last line
   pub going-end : length (linesOf page) ≤ 255 → length page ≤ at → LinesRead l z page classes (of.Taken count)
   going-end most h =
@@ -99,7 +121,7 @@ module _
             let f : count ≡ n = cc in
             ap (λ (i : ℕ). take i classes) (sym f)
             ∙ sym (append-nil (take count classes))
-            ∙ ap (λ (x : List ℕ). take count classes ++ classesFrom number (g .before) (entriesOf l x)) (sym none)
+            ∙ ap (λ (x : List ℕ). take count classes ++ classesFrom number last (entriesOf l x)) (sym none)
             ∙ g .classed;
       }
 
@@ -122,7 +144,7 @@ module _
 
     module _
         (first′ second′ : List ℕ) {classes′ : List ℕ} {r : Step}
-        (x : Stepped l (length work) (length reading) number line (take size (byParity number second first)) (byParity number first second) (byParity number first′ second′) classes count classes′ r)
+        (x : Stepped l (length work) (length reading) number line prior (take size (byParity number second first)) (byParity number first second) (byParity number first′ second′) classes count classes′ r)
       where
         -- what is said of it
         line-said : says (r .answer) ≡ lineSays l z number line
@@ -147,13 +169,16 @@ module _
         -- it is taken
         pub going-on :
             (m at′ : ℕ) → r .answer ≡ Done m → at′ ≡ min (end + 1) (length page) → length first′ ≡ length first → length second′ ≡ length second
-            → Going l z page first′ second′ classes′ at′ (number + 1) (r .size) (r .count)
+            → Going l z page first′ second′ classes′ at end at′ (number + 1) (r .size) (r .count)
         going-on m at′ f n a b =
             record {
               inside = omega arith;
+              behind = e .behind;
+              ended = e .inside;
               numbered = next-counted e h number (length (linesOf page)) (g .numbered) n;
               few = omega (arith, x .few, g .few);
-              before = entryOf l line;
+              before = tokensOf (l .table) (l .start) line;
+              within = line-inside (l .table) (l .start) line;
               held =
                   omega (
                     arith,
@@ -168,22 +193,22 @@ module _
               classed =
                   ap (λ (cs : List ℕ). cs ++ classesFrom (number + 1) (entryOf l line) (entriesOf l (drop at′ page)))
                   (x .classed m (ap says f) (g .before) (g .listed))
-                  ∙ append-assoc (take count classes) (consIf (opensRun number (g .before) (entryOf l line)) (classOf (entryOf l line)) [])
+                  ∙ append-assoc (take count classes) (consIf (opensRun number last (entryOf l line)) (classOf (entryOf l line)) [])
                   (classesFrom (number + 1) (entryOf l line) (entriesOf l (drop at′ page)))
                   ∙ ap (λ (cs : List ℕ). take count classes ++ cs)
-                  (cons-append (opensRun number (g .before) (entryOf l line)) (classOf (entryOf l line))
+                  (cons-append (opensRun number last (entryOf l line)) (classOf (entryOf l line))
                   (classesFrom (number + 1) (entryOf l line) (entriesOf l (drop at′ page))))
                   ∙ ap
                   (λ (i : ℕ).
                   take count classes
-                  ++ consIf (opensRun number (g .before) (entryOf l line)) (classOf (entryOf l line))
+                  ++ consIf (opensRun number last (entryOf l line)) (classOf (entryOf l line))
                   (classesFrom i (entryOf l line) (entriesOf l (drop at′ page)))) (add-one number)
                   ∙ ap
                   (λ (i : ℕ).
                   take count classes
-                  ++ consIf (opensRun number (g .before) (entryOf l line)) (classOf (entryOf l line))
+                  ++ consIf (opensRun number last (entryOf l line)) (classOf (entryOf l line))
                   (classesFrom (suc number) (entryOf l line) (entriesOf l (drop i page)))) n
-                  ∙ ap (λ (ss : List (List ℕ)). take count classes ++ classesFrom number (g .before) (map (entryOf l) ss)) (sym next)
+                  ∙ ap (λ (ss : List (List ℕ)). take count classes ++ classesFrom number last (map (entryOf l) ss)) (sym next)
                   ∙ g .classed;
               said = λ said.
                   said-next said

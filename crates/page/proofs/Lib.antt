@@ -7,8 +7,10 @@ pub mod Meaning
 pub mod Reordered
 pub mod Cases
 -- What only the functions' proofs go by.
+mod Pointwise
 mod Parity
 mod Names
+mod Comparing
 mod Taking
 mod Going
 mod Answering

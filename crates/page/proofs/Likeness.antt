@@ -1,43 +1,53 @@
--- When two lines are alike: exactly when they have in common what alike lines have in common.
+-- When two lines are alike: exactly when they have in common what alike lines have in common; and what that is by the line's reading.
 -- Assumes nothing.
 use Prim.Native.Nat.{ℕ}
-use native.Mathlib.Omega.{arith}
-use mathlib.Core.Path.{_≡_, refl, sym, _∙_}
-use mathlib.Core.Bool.{Bool, true, false, _&&_, true≢false}
-use mathlib.Core.List.{List, [], _∷_, map}
+use mathlib.Core.Path.{_≡_, refl, sym, _∙_, ap, ap₂}
+use mathlib.Core.Bool.{Bool, true, false}
+use mathlib.Core.List.{List, map}
 use mathlib.Core.Logic.{_↔_}
 use borrow.Author.Tests.{eqb-true, eq-eqb}
 use lib.Dec.{eqb}
-use Rattle.tokens.specs.Tokens.{Token}
-use Rattle.page.specs.Entries.{Entry, sameNames, alike, likeness}
+use Rattle.regex.specs.Values.{Val}
+use Rattle.regex.specs.Relation.{Posix}
+use Rattle.regex.specs.Decision.{Parsed}
+use Rattle.regex.proofs.Flats.{posix-flat}
+use Rattle.regex.proofs.Found.{parse-found}
+use Rattle.regex.proofs.Spells.{each}
+use Rattle.table.specs.Expression.{expOf}
+use Rattle.tokens.specs.Tokens.{filter, tokensFrom, taggedParts, hasBytes, Named, textAt, textOf}
+use Rattle.tokens.proofs.Text.{tokens-text}
+use Rattle.lexer.specs.Lexing.{readingTokens}
+use Rattle.page.specs.Entries.{Rules, Entry, entryOf, sameText, sameNamed, alike, likeness}
+use Rattle.page.proofs.Pointwise.{pointwise-exactly}
 
-both-true : (a b : Bool) → (a && b) ≡ true → (a ≡ true) × (b ≡ true)
-both-true true b e = (refl, e)
-both-true false b e = absurd (true≢false (sym e))
+-- a name with its text
+named-exactly : (x y : Named) → (sameNamed x y ≡ true) ↔ (x ≡ y)
+named-exactly x y = (same, λ e. ap (sameNamed x) (sym e) ∙ self)
+  where
+    text-exactly : (s u : List ℕ) → (sameText s u ≡ true) ↔ (s ≡ u)
+    text-exactly = pointwise-exactly eqb (λ c d. (eqb-true c d, eq-eqb c d))
 
--- the names in order
-names-of : (xs ys : List Token) → sameNames xs ys ≡ true → map (λ (x : Token). x .tag) xs ≡ map (λ (x : Token). x .tag) ys
-names-of [] [] e = refl
-names-of [] (y ∷ ys) e = absurd (true≢false (sym e))
-names-of (x ∷ xs) [] e = absurd (true≢false (sym e))
-names-of (x ∷ xs) (y ∷ ys) e =
-    let h : (eqb (x .tag) (y .tag) ≡ true) × (sameNames xs ys ≡ true) = both-true (eqb (x .tag) (y .tag)) (sameNames xs ys) e in
-    let f : x .tag ≡ y .tag = eqb-true (x .tag) (y .tag) (h .0) in
-    let g : map (λ (z : Token). z .tag) xs ≡ map (λ (z : Token). z .tag) ys = names-of xs ys (h .1) in
-    cc
+    same : sameNamed x y ≡ true → x ≡ y
+    same e =
+        let b : (eqb (x .tag) (y .tag) ≡ true) × (sameText (x .text) (y .text) ≡ true) =
+        each (eqb (x .tag) (y .tag)) (sameText (x .text) (y .text)) e in
+        ap₂ (λ (n : ℕ) (s : List ℕ). record { tag = n; text = s }) (eqb-true (x .tag) (y .tag) (b .0)) (text-exactly (x .text) (y .text) .0 (b .1))
 
-same-of : (xs ys : List Token) → map (λ (x : Token). x .tag) xs ≡ map (λ (x : Token). x .tag) ys → sameNames xs ys ≡ true
-same-of [] [] e = refl
-same-of [] (y ∷ ys) e = let z : _≡_ {A = ℕ} 0 1 = cc in absurd (omega arith)
-same-of (x ∷ xs) [] e = let z : _≡_ {A = ℕ} 0 1 = cc in absurd (omega arith)
-same-of (x ∷ xs) (y ∷ ys) e =
-    let f : x .tag ≡ y .tag = cc in
-    let g : map (λ (z : Token). z .tag) xs ≡ map (λ (z : Token). z .tag) ys = cc in
-    rw (eq-eqb (x .tag) (y .tag) f) (same-of xs ys g)
+    self : sameNamed x x ≡ true
+    self = rw (eq-eqb (x .tag) (x .tag) refl) (text-exactly (x .text) (x .text) .1 refl)
 
 pub alike-exactly : (a b : Entry) → (alike a b ≡ true) ↔ (likeness a ≡ likeness b)
 unfolding alike
-alike-exactly a b = (names-of (a .tokens) (b .tokens), same-of (a .tokens) (b .tokens))
+alike-exactly a b = pointwise-exactly sameNamed named-exactly (likeness a) (likeness b)
+
+-- and that is what the outermost tagged parts of at least one byte of the line's reading spell, in order and with their tags, wherever they stand
+pub likeness-spelled :
+    (l : Rules) (s : List ℕ) (v : Val) → Posix s (expOf (l .table) (l .start)) v
+    → likeness (entryOf l s) ≡ map textOf (filter hasBytes (taggedParts (l .table) (l .start) v))
+likeness-spelled l s v p =
+    ap (λ (q : Parsed). map (textAt s) (readingTokens (l .table) (l .start) q)) (parse-found (expOf (l .table) (l .start)) s v .1 p)
+    ∙ ap (λ (u : List ℕ). map (textAt u) (tokensFrom (l .table) (l .start) v 0)) (sym (posix-flat p))
+    ∙ tokens-text (l .table) (l .start) v
 
 -- so it goes both ways and from line to line
 pub alike-refl : (a : Entry) → alike a a ≡ true

@@ -1,4 +1,4 @@
--- Pages, with what is said of each, its class bytes, and whether the scratch and the work area are kept (document 02, request 8).
+-- Pages, with what is said of each, its class bytes, and whether the scratch and the work area are kept (document 02, requests 8 and 10).
 -- Assumes nothing.
 use Prim.Native.Nat.{ℕ}
 use mathlib.Core.Bool.{Bool, true, false}
@@ -26,6 +26,47 @@ Words =
     ++ recordBytes 3 2 3 0
     ++ recordBytes 5 4 0 0)
     5
+
+-- lines of the lift: the word, named 1, spaces, and a temperature, named 2, as lift 29
+abbrev Lift : Rules
+Lift =
+    rules
+    (recordBytes 2 0x6c 0x6c 0
+    ++ recordBytes 2 0x69 0x69 0
+    ++ recordBytes 4 0 1 0
+    ++ recordBytes 2 0x66 0x66 0
+    ++ recordBytes 2 0x74 0x74 0
+    ++ recordBytes 4 3 4 0
+    ++ recordBytes 4 2 5 1
+    ++ recordBytes 2 0x20 0x20 0
+    ++ recordBytes 5 7 0 0
+    ++ recordBytes 2 0x30 0x39 0
+    ++ recordBytes 5 9 0 0
+    ++ recordBytes 2 0x30 0x39 0
+    ++ recordBytes 4 11 10 2
+    ++ recordBytes 4 8 12 0
+    ++ recordBytes 4 6 13 0)
+    14
+
+-- lines of numbers, each named 1, and spaces
+abbrev Numbers : Rules
+Numbers =
+    rules
+    (recordBytes 2 0x30 0x39 0
+    ++ recordBytes 5 0 0 0
+    ++ recordBytes 2 0x30 0x39 0
+    ++ recordBytes 4 2 1 1
+    ++ recordBytes 2 0x20 0x20 0
+    ++ recordBytes 3 3 4 0
+    ++ recordBytes 5 5 0 0)
+    6
+
+-- lines of the letter a, named 1, or 2 behind a space
+abbrev Placed : Rules
+Placed =
+    rules
+    (recordBytes 2 0x61 0x61 1 ++ recordBytes 2 0x20 0x20 0 ++ recordBytes 2 0x61 0x61 2 ++ recordBytes 4 1 2 0 ++ recordBytes 3 0 3 0)
+    4
 
 -- empty lines
 abbrev Blanks : Rules
@@ -63,7 +104,7 @@ abbrev sizes : ℕ → ℕ → ℕ → ℕ → Sizes
 sizes work reading first second = record { work = work; reading = reading; first = first; second = second }
 
 abbrev Ample : Sizes
-Ample = sizes 100 100 100 100
+Ample = sizes 1000 100 100 100
 
 -- line rules, page rules, a page, the lengths of the buffers and of the output buffer; what is said of the page, its class bytes, and whether the scratch
 -- is kept
@@ -81,8 +122,15 @@ abbrev pub computed : Case → Judged
 computed (case l p page z room said classes kept) = judged (pageSays l p page z room) (classesOf l page) (keepsScratch l p page)
 
 -- a page whose class bytes are read; and one of which the line rules and the page rules, the page rules and line 1, or one line is refused
+abbrev reads-by : Rules → List ℕ → List ℕ → ℕ → Case
+reads-by l page classes n = case l Any page Ample 100 (names the-page (gives n)) classes false
+
 abbrev reads : List ℕ → List ℕ → ℕ → Case
-reads page classes n = case Words Any page Ample 100 (names the-page (gives n)) classes false
+reads = reads-by Words
+
+-- a line of the lift with n spaces and a temperature
+abbrev lift : ℕ → List ℕ → List ℕ
+lift n degrees = (0x6c ∷ 0x69 ∷ 0x66 ∷ 0x74 ∷ []) ++ replicate n 0x20 ++ degrees ++ 10 ∷ []
 
 abbrev bad-lines : Rules → ℕ → ℕ → Case
 bad-lines l n d = case l (rules Classes 2) (10 ∷ []) Ample 100 (names line-rules (refuses n d)) (0 ∷ []) true
@@ -103,18 +151,30 @@ cases =
     ∷ reads (0x61 ∷ 10 ∷ []) (1 ∷ []) 2
     ∷ reads (0x61 ∷ 10 ∷ 0x62 ∷ []) (1 ∷ 2 ∷ []) 3
     ∷ reads (0x61 ∷ 10 ∷ 0x62 ∷ 10 ∷ []) (1 ∷ 2 ∷ []) 3
-    -- alike: a, a; ab, ac; ab, a b; a, a, a behind b
+    -- alike: a, a; ab, a b; a, a, a behind b
     ∷ reads (0x61 ∷ 10 ∷ 0x61 ∷ []) (1 ∷ []) 2
-    ∷ reads (0x61 ∷ 0x62 ∷ 10 ∷ 0x61 ∷ 0x63 ∷ 10 ∷ []) (1 ∷ []) 2
     ∷ reads (0x61 ∷ 0x62 ∷ 10 ∷ 0x61 ∷ 0x20 ∷ 0x62 ∷ 10 ∷ []) (1 ∷ []) 2
     ∷ reads (0x62 ∷ 10 ∷ 0x61 ∷ 10 ∷ 0x61 ∷ 10 ∷ 0x61 ∷ []) (2 ∷ 1 ∷ []) 3
-    -- not alike: ab, aa; a, ab; ab, a
+    -- two temperatures are two lines: lift 29, lift 31; and one is one: lift 31, lift  31, with other offsets
+    ∷ reads-by Lift (lift 1 (0x32 ∷ 0x39 ∷ []) ++ lift 1 (0x33 ∷ 0x31 ∷ [])) (1 ∷ 1 ∷ []) 3
+    ∷ reads-by Lift (lift 1 (0x33 ∷ 0x31 ∷ []) ++ lift 2 (0x33 ∷ 0x31 ∷ [])) (1 ∷ []) 2
+    -- the names are the same: 29, 290; 290, 29; 12 3, 1 23; 1 2, 1 3; 1 2, 3 2; and 12 3, 12  3 have the same texts
+    ∷ reads-by Numbers (0x32 ∷ 0x39 ∷ 10 ∷ 0x32 ∷ 0x39 ∷ 0x30 ∷ []) (1 ∷ 1 ∷ []) 3
+    ∷ reads-by Numbers (0x32 ∷ 0x39 ∷ 0x30 ∷ 10 ∷ 0x32 ∷ 0x39 ∷ []) (1 ∷ 1 ∷ []) 3
+    ∷ reads-by Numbers (0x31 ∷ 0x32 ∷ 0x20 ∷ 0x33 ∷ 10 ∷ 0x31 ∷ 0x20 ∷ 0x32 ∷ 0x33 ∷ []) (1 ∷ 1 ∷ []) 3
+    ∷ reads-by Numbers (0x31 ∷ 0x20 ∷ 0x32 ∷ 10 ∷ 0x31 ∷ 0x20 ∷ 0x33 ∷ []) (1 ∷ 1 ∷ []) 3
+    ∷ reads-by Numbers (0x31 ∷ 0x20 ∷ 0x32 ∷ 10 ∷ 0x33 ∷ 0x20 ∷ 0x32 ∷ []) (1 ∷ 1 ∷ []) 3
+    ∷ reads-by Numbers (0x31 ∷ 0x32 ∷ 0x20 ∷ 0x33 ∷ 10 ∷ 0x31 ∷ 0x32 ∷ 0x20 ∷ 0x20 ∷ 0x33 ∷ []) (1 ∷ []) 2
+    -- the texts are the same, and the names are not: a, and a behind a space
+    ∷ reads-by Placed (0x61 ∷ 10 ∷ 0x20 ∷ 0x61 ∷ []) (1 ∷ 2 ∷ []) 3
+    -- not alike: ab, ac; ab, aa; a, ab; ab, a
+    ∷ reads (0x61 ∷ 0x62 ∷ 10 ∷ 0x61 ∷ 0x63 ∷ 10 ∷ []) (1 ∷ 1 ∷ []) 3
     ∷ reads (0x61 ∷ 0x62 ∷ 10 ∷ 0x61 ∷ 0x61 ∷ 10 ∷ []) (1 ∷ 1 ∷ []) 3
     ∷ reads (0x61 ∷ 10 ∷ 0x61 ∷ 0x62 ∷ 10 ∷ []) (1 ∷ 1 ∷ []) 3
     ∷ reads (0x61 ∷ 0x62 ∷ 10 ∷ 0x61 ∷ 10 ∷ []) (1 ∷ 1 ∷ []) 3
     -- a, b, a; and a, a, b, c, a
     ∷ reads (0x61 ∷ 10 ∷ 0x62 ∷ 10 ∷ 0x61 ∷ 10 ∷ []) (1 ∷ 2 ∷ 1 ∷ []) 4
-    ∷ reads (0x61 ∷ 10 ∷ 0x61 ∷ 10 ∷ 0x62 ∷ 10 ∷ 0x63 ∷ 10 ∷ 0x61 ∷ []) (1 ∷ 2 ∷ 1 ∷ []) 4
+    ∷ reads (0x61 ∷ 10 ∷ 0x61 ∷ 10 ∷ 0x62 ∷ 10 ∷ 0x63 ∷ 10 ∷ 0x61 ∷ []) (1 ∷ 2 ∷ 2 ∷ 1 ∷ []) 5
     -- the first token's name, not the last one's: ba
     ∷ reads (0x62 ∷ 0x61 ∷ []) (2 ∷ []) 2
     -- no token: one space; none, one and two spaces in a run; and a line with a token between them
@@ -186,8 +246,8 @@ runs-computed (division page rs) = map (λ (r : Run). map (λ (e : Entry). e .te
 
 abbrev pub divisions : List Division
 divisions =
-    -- ab and ac; a, an empty line and a space, c and b
-    division (0x61 ∷ 0x62 ∷ 10 ∷ 0x61 ∷ 0x63 ∷ []) (((0x61 ∷ 0x62 ∷ []) ∷ (0x61 ∷ 0x63 ∷ []) ∷ []) ∷ [])
-    ∷ division (0x61 ∷ 10 ∷ 10 ∷ 0x20 ∷ 10 ∷ 0x63 ∷ 10 ∷ 0x62 ∷ 10 ∷ [])
-    (((0x61 ∷ []) ∷ []) ∷ ([] ∷ (0x20 ∷ []) ∷ []) ∷ ((0x63 ∷ []) ∷ (0x62 ∷ []) ∷ []) ∷ [])
+    -- ab and a b; a, an empty line and a space, c, b and b behind a space
+    division (0x61 ∷ 0x62 ∷ 10 ∷ 0x61 ∷ 0x20 ∷ 0x62 ∷ []) (((0x61 ∷ 0x62 ∷ []) ∷ (0x61 ∷ 0x20 ∷ 0x62 ∷ []) ∷ []) ∷ [])
+    ∷ division (0x61 ∷ 10 ∷ 10 ∷ 0x20 ∷ 10 ∷ 0x63 ∷ 10 ∷ 0x62 ∷ 10 ∷ 0x20 ∷ 0x62 ∷ 10 ∷ [])
+    (((0x61 ∷ []) ∷ []) ∷ ([] ∷ (0x20 ∷ []) ∷ []) ∷ ((0x63 ∷ []) ∷ []) ∷ ((0x62 ∷ []) ∷ (0x20 ∷ 0x62 ∷ []) ∷ []) ∷ [])
     ∷ []

@@ -1,11 +1,11 @@
--- A line with its tokens, when two of them are alike, and its class (document 02, request 8): "Neighbouring lines are alike if their token names are
--- the same in order .. The class of a line is its first token's name, or 0 if it has none."
+-- A line with its tokens; when two of them are alike (document 02, request 10): "the same names in order and, for each token, the same bytes of text.
+-- Offsets don't count."; and its class (request 8): "The class of a line is its first token's name, or 0 if it has none."
 -- Assumes nothing.
 use Prim.Native.Nat.{ℕ}
 use mathlib.Core.Bool.{Bool, true, false, _&&_}
 use mathlib.Core.List.{List, [], _∷_, map}
 use lib.Dec.{eqb}
-use Rattle.tokens.specs.Tokens.{Token}
+use Rattle.tokens.specs.Tokens.{Token, Named, textAt}
 use Rattle.lexer.specs.Lexing.{tokensOf}
 
 -- the rules that lines are read by: a table and a start number
@@ -21,20 +21,28 @@ pub record Entry : Type 0 where
 abbrev pub entryOf : Rules → List ℕ → Entry
 entryOf l s = record { text = s; tokens = tokensOf (l .table) (l .start) s }
 
--- token lists with the same names in order
-abbrev pub sameNames : List Token → List Token → Bool
-sameNames [] [] = true
-sameNames [] (y ∷ ys) = false
-sameNames (x ∷ xs) [] = false
-sameNames (x ∷ xs) (y ∷ ys) = eqb (x .tag) (y .tag) && sameNames xs ys
+-- lists of one length whose elements pass a test, each with the one at its place
+abbrev pub pointwise : {A : Type 0} → (A → A → Bool) → List A → List A → Bool
+pointwise p [] [] = true
+pointwise p [] (y ∷ ys) = false
+pointwise p (x ∷ xs) [] = false
+pointwise p (x ∷ xs) (y ∷ ys) = p x y && pointwise p xs ys
+
+-- the same bytes
+abbrev pub sameText : List ℕ → List ℕ → Bool
+sameText = pointwise eqb
+
+-- the same name and the same bytes of text
+abbrev pub sameNamed : Named → Named → Bool
+sameNamed x y = eqb (x .tag) (y .tag) && sameText (x .text) (y .text)
+
+-- what alike lines have in common: the names of their tokens in order, each with its bytes of text
+abbrev pub likeness : Entry → List Named
+likeness e = map (textAt (e .text)) (e .tokens)
 
 -- two lines are alike
 unfoldable pub alike : Entry → Entry → Bool
-alike a b = sameNames (a .tokens) (b .tokens)
-
--- what alike lines have in common: their token names in order
-abbrev pub likeness : Entry → List ℕ
-likeness e = map (λ x. x .tag) (e .tokens)
+alike a b = pointwise sameNamed (likeness a) (likeness b)
 
 -- the class of a line
 abbrev pub firstName : List Token → ℕ

@@ -1,13 +1,13 @@
 -- What the functions that read a page's lines are given and leave.
 -- Assumes nothing.
-use Prim.Native.Nat.{ℕ, suc, _+_, _≤_}
+use Prim.Native.Nat.{ℕ, suc, _+_, _*_, _≤_, _<_}
 use mathlib.Core.Path.{_≡_}
 use mathlib.Core.Bool.{Bool, not, _||_}
 use mathlib.Core.List.{List, [], _∷_, _++_}
 use lib.Dec.{eqb}
 use lib.ListN.{length, take}
 use Rattle.table.specs.Answers.{gives, refusal, says}
-use Rattle.tokens.specs.Tokens.{consIf, tokenBytes}
+use Rattle.tokens.specs.Tokens.{Token, consIf, tokenBytes, nthToken}
 use Rattle.lexer.specs.Lexing.{tokensOf, lexSays}
 use Rattle.lines.specs.Lines.{linesOf}
 use Rattle.page.specs.declared.Step.{Step}
@@ -26,16 +26,20 @@ abbrev pub classesFrom : ℕ → Entry → List Entry → List ℕ
 classesFrom i before [] = []
 classesFrom i before (e ∷ es) = consIf (opensRun i before e) (classOf e) (classesFrom (suc i) e es)
 
--- a line s with number i is read: its tokens go into the buffer `own`, and its class behind `n` class bytes where it opens a run. The tokens of the
--- line before stand in `before`.
-pub record Stepped (l : Rules) (work room i : ℕ) (s before own own′ classes : List ℕ) (n : ℕ) (classes′ : List ℕ) (r : Step) : Type 0 where
+-- the tokens of a list's bytes lie inside a line
+abbrev pub Within : List ℕ → List ℕ → Type 0
+Within s ts = (i : ℕ) → 3 * i + 2 < length ts → nthToken ts i .offset + nthToken ts i .size ≤ length s
+
+-- a line s with number i is read: its tokens go into the buffer `own`, and its class behind `n` class bytes where it opens a run. The line before is u,
+-- and its tokens stand in `before`.
+pub record Stepped (l : Rules) (work room i : ℕ) (s u before own own′ classes : List ℕ) (n : ℕ) (classes′ : List ℕ) (r : Step) : Type 0 where
   pub said : says (r .answer) ≡ lexSays (l .table) (l .start) s work room (length own)
   pub held : (m : ℕ) → says (r .answer) ≡ gives m → r .size ≤ length own
   pub listed : (m : ℕ) → says (r .answer) ≡ gives m → take (r .size) own′ ≡ tokenBytes (tokensOf (l .table) (l .start) s)
   pub few : r .count ≤ n + 1
   pub classed :
-      (m : ℕ) → says (r .answer) ≡ gives m → (a : Entry) → before ≡ tokenBytes (a .tokens)
-      → take (r .count) classes′ ≡ take n classes ++ consIf (opensRun i a (entryOf l s)) (classOf (entryOf l s)) []
+      (m : ℕ) → says (r .answer) ≡ gives m → (xs : List Token) → before ≡ tokenBytes xs
+      → take (r .count) classes′ ≡ take n classes ++ consIf (opensRun i (record { text = u; tokens = xs }) (entryOf l s)) (classOf (entryOf l s)) []
 
 -- what is said of the lines, and then of the page
 abbrev pub linesThen : Lines → PageSaid → PageSaid

@@ -1,17 +1,17 @@
 // Rules over the lines of a page: each line is read by one table, and the classes of the lines by another.
 
-ghost use Prim.Native.Nat.{_+_, _≤_, _<_};
+ghost use Prim.Native.Nat.{_+_, _*_, _≤_, _<_};
 ghost use mathlib.Core.Path.{_≡_};
-ghost use mathlib.Core.Bool.{Bool, true};
+ghost use mathlib.Core.Bool.{true};
 ghost use mathlib.Core.List.{List, [], _++_};
 ghost use lib.ListN.{length, take};
-ghost use Rattle.tokens.specs.Tokens.{Token, consIf, tokenBytes};
+ghost use Rattle.tokens.specs.Tokens.{Token, consIf, tokenBytes, nthToken, textAt};
 ghost use Rattle.matcher.specs.Calls.{readSays, readLeaves};
 ghost use Rattle.lines.specs.Lines.{linesOf};
-ghost use Rattle.page.specs.Entries.{Entry, sameNames, firstName};
+ghost use Rattle.page.specs.Entries.{sameText, sameNamed, alike, firstName};
 ghost use Rattle.page.specs.Outcomes.{the-page, names, outcomeSays};
 ghost use Rattle.page.specs.Pages.{byParity, pageSays, pageLeaves, keepsScratch};
-ghost use Rattle.page.specs.Steps.{opensRun, Stepped, LinesRead};
+ghost use Rattle.page.specs.Steps.{opensRun, Within, Stepped, LinesRead};
 use reading::Place;
 use table::Answer;
 use table::Refusal;
@@ -39,19 +39,62 @@ pub enum Lines {
     Refused(Refusal, usize),
 }
 
-// Whether two token lists have the same names in order.
-fn same_names(first: &[u8], second: &[u8]) -> bool
-    ensures { λ r.
-        ⌜ ((xs ys : List Token) → now (first .entry) ≡ tokenBytes xs → now (second .entry) ≡ tokenBytes ys → r ≡ sameNames xs ys) ⌝ }
+// Whether two texts are the same bytes.
+fn same_text(first: &[u8], second: &[u8]) -> bool
+    ensures { λ r. ⌜ r ≡ sameText (now (first .entry)) (now (second .entry)) ⌝ }
 {
     let n = first.len();
     if second.len() != n {
         return false;
     }
+    let mut i = 0;
+    while i < n {
+        if first[i] != second[i] {
+            return false;
+        }
+        i += 1;
+    }
+    true
+}
+
+// Whether token i of the line before and token i of the line have the same name and the same text.
+fn same_token(prior: &[u8], priortokens: &[u8], line: &[u8], tokens: &[u8], i: usize) -> bool
+    requires prior { ⌜ 3 * i + 2 < length (now priortokens) ⌝ }
+    requires own { ⌜ 3 * i + 2 < length (now tokens) ⌝ }
+    requires priorinside { ⌜ Within (now prior) (now priortokens) ⌝ }
+    requires inside { ⌜ Within (now line) (now tokens) ⌝ }
+    ensures { λ r.
+        ⌜ r
+        ≡ sameNamed (textAt (now (prior .entry)) (nthToken (now (priortokens .entry)) i))
+        (textAt (now (line .entry)) (nthToken (now (tokens .entry)) i)) ⌝ }
+{
+    let at = 3 * i;
+    if priortokens[at] != tokens[at] {
+        return false;
+    }
+    let prior_start = priortokens[at + 1] as usize;
+    let prior_end = prior_start + priortokens[at + 2] as usize;
+    let start = tokens[at + 1] as usize;
+    let end = start + tokens[at + 2] as usize;
+    same_text(&prior[prior_start..prior_end], &line[start..end])
+}
+
+// Whether the line before and the line are alike, each with its tokens.
+fn same_tokens(prior: &[u8], priortokens: &[u8], line: &[u8], tokens: &[u8]) -> bool
+    requires prior { ⌜ Within (now prior) (now priortokens) ⌝ }
+    requires own { ⌜ Within (now line) (now tokens) ⌝ }
+    ensures { λ r.
+        ⌜ ((xs ys : List Token) → now (priortokens .entry) ≡ tokenBytes xs → now (tokens .entry) ≡ tokenBytes ys
+        → r ≡ alike (record { text = now (prior .entry); tokens = xs }) (record { text = now (line .entry); tokens = ys })) ⌝ }
+{
+    let n = priortokens.len();
+    if tokens.len() != n {
+        return false;
+    }
     let count = n / 3;
     let mut i = 0;
     while i < count {
-        if first[3 * i] != second[3 * i] {
+        if !same_token(prior, priortokens, line, tokens, i) {
             return false;
         }
         i += 1;
@@ -69,16 +112,18 @@ fn first_name(tokens: &[u8]) -> u8
     tokens[0]
 }
 
-// Whether a line with its number and tokens opens a run, after the tokens of the line before.
-fn opens_run(number: usize, before: &[u8], tokens: &[u8]) -> bool
+// Whether a line with its number and tokens opens a run, after the line before and its tokens.
+fn opens_run(number: usize, prior: &[u8], priortokens: &[u8], line: &[u8], tokens: &[u8]) -> bool
+    requires prior { ⌜ Within (now prior) (now priortokens) ⌝ }
+    requires own { ⌜ Within (now line) (now tokens) ⌝ }
     ensures { λ r.
-        ⌜ ((a b : Entry) → now (before .entry) ≡ tokenBytes (a .tokens) → now (tokens .entry) ≡ tokenBytes (b .tokens)
-        → r ≡ opensRun number a b) ⌝ }
+        ⌜ ((xs ys : List Token) → now (priortokens .entry) ≡ tokenBytes xs → now (tokens .entry) ≡ tokenBytes ys
+        → r ≡ opensRun number (record { text = now (prior .entry); tokens = xs }) (record { text = now (line .entry); tokens = ys })) ⌝ }
 {
     if number == 0 {
         return true;
     }
-    !same_names(before, tokens)
+    !same_tokens(prior, priortokens, line, tokens)
 }
 
 // Puts a class behind so many class bytes if it is to be put, and returns their number then.
@@ -100,23 +145,26 @@ fn take_line(
     start: usize,
     line: &[u8],
     number: usize,
-    before: &[u8],
+    prior: &[u8],
+    priortokens: &[u8],
     work: &mut [u8],
     reading: &mut [u8],
     own: &mut [u8],
     classes: &mut [u8],
     count: usize,
 ) -> Step
-    requires { ⌜ count < length (now classes) ⌝ }
+    requires classes { ⌜ count < length (now classes) ⌝ }
+    requires prior { ⌜ Within (now prior) (now priortokens) ⌝ }
     ensures { λ r.
         ⌜ Stepped (record { table = now (table .entry); start = start }) (length (now (work .entry))) (length (now (reading .entry))) number
-        (now (line .entry)) (now (before .entry)) (now (own .entry)) (now (own .exit)) (now (classes .entry)) count (now (classes .exit)) r ⌝ }
+        (now (line .entry)) (now (prior .entry)) (now (priortokens .entry)) (now (own .entry)) (now (own .exit)) (now (classes .entry)) count
+        (now (classes .exit)) r ⌝ }
 {
     match lexer::lex(table, start, line, work, reading, own) {
         Answer::Done(n) => {
             let size = 3 * n;
             let class = first_name(&own[..size]);
-            let opens = opens_run(number, before, &own[..size]);
+            let opens = opens_run(number, prior, priortokens, line, &own[..size]);
             let with_class = put_class(classes, count, class, opens);
             Step {
                 answer: Answer::Done(n),
@@ -139,6 +187,7 @@ fn take_by_parity(
     start: usize,
     line: &[u8],
     number: usize,
+    prior: &[u8],
     size: usize,
     work: &mut [u8],
     reading: &mut [u8],
@@ -149,11 +198,12 @@ fn take_by_parity(
 ) -> Step
     requires classes { ⌜ count < length (now classes) ⌝ }
     requires size { ⌜ size ≤ length (byParity number (now second) (now first)) ⌝ }
+    requires prior { ⌜ Within (now prior) (take size (byParity number (now second) (now first))) ⌝ }
     ensures kept { λ _.
         ⌜ byParity number (now (second .exit)) (now (first .exit)) ≡ byParity number (now (second .entry)) (now (first .entry)) ⌝ }
     ensures line { λ r.
         ⌜ Stepped (record { table = now (table .entry); start = start }) (length (now (work .entry))) (length (now (reading .entry))) number
-        (now (line .entry)) (take size (byParity number (now (second .entry)) (now (first .entry))))
+        (now (line .entry)) (now (prior .entry)) (take size (byParity number (now (second .entry)) (now (first .entry))))
         (byParity number (now (first .entry)) (now (second .entry))) (byParity number (now (first .exit)) (now (second .exit)))
         (now (classes .entry)) count (now (classes .exit)) r ⌝ }
 {
@@ -163,6 +213,7 @@ fn take_by_parity(
             start,
             line,
             number,
+            prior,
             &second[..size],
             work,
             reading,
@@ -176,6 +227,7 @@ fn take_by_parity(
         start,
         line,
         number,
+        prior,
         &first[..size],
         work,
         reading,
@@ -203,6 +255,8 @@ fn take_lines(
         (record { work = length (now (work .entry)); reading = length (now (reading .entry)); first = length (now (first .entry)); second = length (now (second .entry)) })
         (now (page .entry)) (now (classes .exit)) r ⌝ }
 {
+    let mut prior_start = 0;
+    let mut prior_end = 0;
     let mut at = 0;
     let mut number = 0;
     let mut size = 0;
@@ -214,6 +268,7 @@ fn take_lines(
             start,
             &page[at..end],
             number,
+            &page[prior_start..prior_end],
             size,
             work,
             reading,
@@ -228,6 +283,8 @@ fn take_lines(
         }
         size = step.size;
         count = step.count;
+        prior_start = at;
+        prior_end = end;
         at = lines::next_line(page, end);
         number += 1;
     }

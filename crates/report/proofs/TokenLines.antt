@@ -6,9 +6,10 @@ use mathlib.Core.List.{List, [], _∷_, _++_, append-assoc, append-nil}
 use native.Mathlib.Omega.{arith}
 use native.Mathlib.Numerals.{add-one}
 use lib.ListN.{length, take, drop, getD, length-append, take-append-drop}
-use lib.Seq.{getD-drop, length-take-le}
-use Rattle.tokens.specs.Tokens.{Token, tokenBytes}
+use lib.Seq.{length-take-le}
+use Rattle.tokens.specs.Tokens.{Token, tokenBytes, nthToken}
 use Rattle.tokens.proofs.Counts.{bytes-count}
+use Rattle.tokens.proofs.Places.{token-next}
 use Rattle.printing.specs.Decimal.{decimal}
 use Rattle.printing.specs.Writes.{Wrote}
 use Rattle.printing.proofs.Writes.{wrote-then, wrote-as}
@@ -17,31 +18,15 @@ use Rattle.report.specs.Text.{okWord}
 use Rattle.report.specs.Report.{tokenLine, tokenLines, okLine}
 use Rattle.report.specs.Writes.{lineWith}
 
-abbrev pub token : ℕ → ℕ → ℕ → Token
-token a b c = record { tag = a; offset = b; size = c }
-
--- the token of record i, and those of the first n records
-abbrev pub tokenAt : List ℕ → ℕ → Token
-tokenAt s i = token (getD s (3 * i) 0) (getD s (3 * i + 1) 0) (getD s (3 * i + 2) 0)
-
+-- the tokens of the first n records
 abbrev pub firstTokens : ℕ → List ℕ → List Token
 firstTokens zero s = []
-firstTokens (suc n) s = tokenAt s 0 ∷ firstTokens n (drop 3 s)
+firstTokens (suc n) s = nthToken s 0 ∷ firstTokens n (drop 3 s)
 
-at-next : (s : List ℕ) (i j : ℕ) → j ≡ 3 + i → getD (drop 3 s) i 0 ≡ getD s j 0
-at-next s i j e = getD-drop 3 s i 0 ∙ ap (λ (k : ℕ). getD s k 0) (sym e)
-
-token-next : (s : List ℕ) (n : ℕ) → tokenAt (drop 3 s) n ≡ tokenAt s (suc n)
-token-next s n =
-    let x : getD (drop 3 s) (3 * n) 0 ≡ getD s (3 * suc n) 0 = at-next s (3 * n) (3 * suc n) (omega arith) in
-    let y : getD (drop 3 s) (3 * n + 1) 0 ≡ getD s (3 * suc n + 1) 0 = at-next s (3 * n + 1) (3 * suc n + 1) (omega arith) in
-    let z : getD (drop 3 s) (3 * n + 2) 0 ≡ getD s (3 * suc n + 2) 0 = at-next s (3 * n + 2) (3 * suc n + 2) (omega arith) in
-    cc
-
-tokens-snoc : (n : ℕ) (s : List ℕ) → firstTokens (suc n) s ≡ firstTokens n s ++ (tokenAt s n ∷ [])
+tokens-snoc : (n : ℕ) (s : List ℕ) → firstTokens (suc n) s ≡ firstTokens n s ++ (nthToken s n ∷ [])
 tokens-snoc zero s = refl
 tokens-snoc (suc n) s =
-    ap (λ (xs : List Token). tokenAt s 0 ∷ xs)
+    ap (λ (xs : List Token). nthToken s 0 ∷ xs)
     (tokens-snoc n (drop 3 s) ∙ ap (λ (x : Token). firstTokens n (drop 3 s) ++ (x ∷ [])) (token-next s n))
 
 tokens-front : (xs : List Token) (rest : List ℕ) → firstTokens (length xs) (tokenBytes xs ++ rest) ≡ xs
@@ -61,11 +46,11 @@ lines-snoc (y ∷ xs) x = ap (λ (s : List ℕ). tokenLine y ++ s) (lines-snoc x
 
 -- the lines of one token more
 pub lines-more :
-    (s a b c : List ℕ) (at i next end : ℕ) → Wrote a b at next (tokenLines (firstTokens i s)) → Wrote b c next end (tokenLine (tokenAt s i))
+    (s a b c : List ℕ) (at i next end : ℕ) → Wrote a b at next (tokenLines (firstTokens i s)) → Wrote b c next end (tokenLine (nthToken s i))
     → Wrote a c at end (tokenLines (firstTokens (i + 1) s))
 lines-more s a b c at i next end w v =
     wrote-as (wrote-then w v)
-    (sym (ap (λ (n : ℕ). tokenLines (firstTokens n s)) (add-one i) ∙ ap tokenLines (tokens-snoc i s) ∙ lines-snoc (firstTokens i s) (tokenAt s i)))
+    (sym (ap (λ (n : ℕ). tokenLines (firstTokens n s)) (add-one i) ∙ ap tokenLines (tokens-snoc i s) ∙ lines-snoc (firstTokens i s) (nthToken s i)))
 
 -- the lines are those of xs
 pub lines-all :
@@ -74,7 +59,7 @@ pub lines-all :
 lines-all s a b at n i next w f h xs e = wrote-as w (ap (λ (k : ℕ). tokenLines (firstTokens k s)) f ∙ ap tokenLines (tokens-are n s xs h e))
 
 -- a token of bytes has a line of at most 12 bytes
-pub length-line : (a b c : ℕ) → a < 256 → b < 256 → c < 256 → length (tokenLine (token a b c)) ≤ 12
+pub length-line : (a b c : ℕ) → a < 256 → b < 256 → c < 256 → length (tokenLine (record { tag = a; offset = b; size = c })) ≤ 12
 length-line a b c x y z =
     omega (
       arith,
@@ -87,7 +72,7 @@ length-line a b c x y z =
     )
 
 pub token-room :
-    (s b c : List ℕ) (i next end : ℕ) → Wrote b c next end (tokenLine (tokenAt s i)) → ((j : ℕ) → getD s j 0 < 256) → end ≤ next + 12
+    (s b c : List ℕ) (i next end : ℕ) → Wrote b c next end (tokenLine (nthToken s i)) → ((j : ℕ) → getD s j 0 < 256) → end ≤ next + 12
 token-room s b c i next end w h =
     omega (
       arith,

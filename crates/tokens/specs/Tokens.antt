@@ -2,10 +2,10 @@
 -- writes 3 bytes (tag, offset of the part in the line, length) and doesn't go inside." And request 2: "Tokens leaves out a tagged part that
 -- spells no byte."
 -- Assumes nothing.
-use Prim.Native.Nat.{ℕ, zero, suc, _+_}
+use Prim.Native.Nat.{ℕ, zero, suc, _+_, _*_, _≤_}
 use mathlib.Core.Bool.{Bool, true, false}
 use mathlib.Core.List.{List, [], _∷_, _++_}
-use lib.ListN.{length, take, drop}
+use lib.ListN.{length, getD, take, drop}
 use Rattle.regex.specs.Values.{Val, void, byte, left, right, pair, none, more, flat}
 use Rattle.table.specs.Records.{aAt, bAt, tagAt}
 
@@ -64,6 +64,19 @@ tokensFrom t k v at = filter hasSize (placedParts t k v at)
 abbrev pub tokenBytes : List Token → List ℕ
 tokenBytes [] = []
 tokenBytes (x ∷ xs) = (x .tag) ∷ ((x .offset) ∷ ((x .size) ∷ tokenBytes xs))
+
+-- token i of a list, from its bytes
+abbrev pub nthToken : List ℕ → ℕ → Token
+nthToken bs i = record { tag = getD bs (3 * i) 0; offset = getD bs (3 * i + 1) 0; size = getD bs (3 * i + 2) 0 }
+
+-- every token of a list has P
+abbrev pub Every : (Token → Type 0) → List Token → Type 0
+Every P [] = Unit {0}
+Every P (x ∷ xs) = P x × Every P xs
+
+-- every token of a list lies inside a line of n bytes
+abbrev pub Inside : ℕ → List Token → Type 0
+Inside n = Every (λ x. x .offset + x .size ≤ n)
 
 -- a tagged part: its tag and its value
 pub record Tagged : Type 0 where

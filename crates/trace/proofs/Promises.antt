@@ -35,10 +35,11 @@ use Rattle.reading.proofs.Sizes.{bytes-fits}
 use Rattle.reading.proofs.Forms.{form-fits}
 use Rattle.reading.proofs.Spelling.{spell-writes}
 use Rattle.reading.proofs.Misfits.{spell-misfits}
-use Rattle.tokens.specs.Tokens.{Token, filter, tokensFrom, tokenBytes, taggedParts, hasBytes, textAt, textOf}
+use Rattle.tokens.specs.Tokens.{Token, filter, tokensFrom, tokenBytes, Inside, taggedParts, hasBytes, textAt, textOf}
 use Rattle.tokens.specs.Listed.{tokensSays, tokensLeaves}
 use Rattle.tokens.proofs.Counts.{tokens-count}
 use Rattle.tokens.proofs.Text.{tokens-text}
+use Rattle.tokens.proofs.Places.{tokens-inside}
 use Rattle.tokens.proofs.Calls.{tokens-writes, tokens-misfits}
 use Rattle.ranking.specs.Answers.{compareSays}
 use Rattle.ranking.specs.OneLine.{OneLine, AnswersPrecedence}
@@ -68,11 +69,11 @@ use Rattle.reorder.proofs.Lines.{same-lists}
 use Rattle.reorder.proofs.Texts.{neighbours, text-size, text-lines, text-tokens, text-reading}
 use Rattle.apart.specs.Calls.{apartSays}
 use Rattle.apart.proofs.Yes.{yes-apart}
-use Rattle.page.specs.Entries.{Rules, Entry, alike, likeness}
+use Rattle.page.specs.Entries.{Rules, Entry, entryOf, alike, likeness}
 use Rattle.page.specs.Runs.{Run, members, runs, runsByFirst, AlikeInside, LikeFirst, Apart}
 use Rattle.page.specs.Outcomes.{Who, the-page, line-rules, page-rules, one-line, PageSaid, names, pageNumber}
 use Rattle.page.specs.Pages.{Sizes, ifTaken, lineSays, classesOf, rulesSay, pageSays, pageLeaves, AllTaken, PageTaken}
-use Rattle.page.proofs.Likeness.{alike-exactly}
+use Rattle.page.proofs.Likeness.{alike-exactly, likeness-spelled}
 use Rattle.page.proofs.Runs.{same-runs, runs-whole}
 use Rattle.page.proofs.Division.{runs-alike, runs-like-first, runs-apart, runs-only}
 use Rattle.page.proofs.Meaning.{page-refused, page-gives, page-said, page-left, page-reads, page-outranks, page-line-rules, page-page-rules, page-many, page-first-refused, page-empty}
@@ -186,6 +187,10 @@ tokens-right = tokens-writes
 pub tokens-placed :
     (t : List ℕ) (k : ℕ) (v : Val) → map (textAt (flat v)) (tokensFrom t k v 0) ≡ map textOf (filter hasBytes (taggedParts t k v))
 tokens-placed = tokens-text
+
+-- Request 10: every token lies inside its line
+pub tokens-within : (t : List ℕ) (k : ℕ) (v : Val) → Inside (length (flat v)) (tokensFrom t k v 0)
+tokens-within = tokens-inside
 
 -- Request 2: at most one token for each byte of the line
 pub tokens-few : (t : List ℕ) (k : ℕ) (v : Val) (at : ℕ) → length (tokensFrom t k v at) ≤ length (flat v)
@@ -428,9 +433,16 @@ pub line-by-read :
     (t : List ℕ) (k : ℕ) (s : List ℕ) (work room space n d : ℕ) → readSays t k s work room ≡ refuses n d → lexSays t k s work room space ≡ refuses n d
 line-by-read = lex-refused
 
--- Request 8: "Neighbouring lines are alike if their token names are the same in order"
+-- Request 10: "the same names in order and, for each token, the same bytes of text. Offsets don't count." What alike lines have in common are the names
+-- of their tokens in order, each with its bytes of text
 pub page-alike : (a b : Entry) → (alike a b ≡ true) ↔ (likeness a ≡ likeness b)
 page-alike = alike-exactly
+
+-- Request 10: and these are what the outermost tagged parts of at least one byte of the line's reading spell, wherever they stand
+pub page-likeness :
+    (l : Rules) (s : List ℕ) (v : Val) → Posix s (expOf (l .table) (l .start)) v
+    → likeness (entryOf l s) ≡ map textOf (filter hasBytes (taggedParts (l .table) (l .start) v))
+page-likeness = likeness-spelled
 
 -- Request 8: "a run of alike lines counts as its first line": the runs are the page's lines, one after the other; each line of a run is alike to the
 -- one before it and so to the first, and the last of a run is not alike to the first of the next; there are no other runs like that

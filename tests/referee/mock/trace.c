@@ -814,7 +814,10 @@ uint64_t trace_live_take_back(live *l, uint8_t *work, size_t work_len) {
     return told(l, c, n, work);
 }
 
-/* A page: what is lent, and what was found of the lines so far. */
+/* A line of a page, and its tokens. */
+typedef struct { const uint8_t *s; size_t n, count; uint8_t tokens[765]; } ln;
+
+/* A page: what is lent, and what was found of the lines so far: the last three, and line 0. */
 typedef struct { const uint8_t *table; size_t len; uint64_t start; } rules;
 typedef struct {
     rules lines, runs;
@@ -824,8 +827,9 @@ typedef struct {
     size_t work_len, reading_len, list_len[2];
     uint8_t *out;
     size_t out_len;
-    uint8_t names[4][255], class[256];
-    size_t counts[4], classes, run;
+    ln kept[4];
+    uint8_t class[256];
+    size_t classes, run;
 } pg;
 
 static uint64_t named(uint64_t who, uint64_t number) { return (who << 56) + number; }
@@ -840,25 +844,96 @@ static size_t line_count(const pg *p) {
     return count;
 }
 
-static int by_size(const void *a, const void *b) { return *(const uint8_t *)a - *(const uint8_t *)b; }
+/* Tokens by their names, or with fault 380 by the first bytes of their texts. */
+static const uint8_t *sorted_line;
+static int by_key(const void *a, const void *b) {
+    const uint8_t *x = a, *y = b;
+    return FAULT == 380 ? sorted_line[x[1]] - sorted_line[y[1]] : x[0] - y[0];
+}
 
-/* Whether line i is alike with one before it, whose names are those of that place: i modulo 3, or 3 for line 0. */
-static int alike(const pg *p, size_t i, const uint8_t *own, const uint8_t *other) {
-    size_t place = FAULT == 255 ? (i + 1) % 3 : FAULT == 256 ? 3 : (i + 2) % 3, n = p->counts[i % 3], m = p->counts[place];
-    uint8_t x[255], y[255], mask = FAULT == 254 ? 127 : 255;
+/* Whether two texts are the same. */
+static int same_text(const uint8_t *a, size_t n, const uint8_t *b, size_t m) {
+    uint8_t mask = FAULT == 371 ? 127 : 255, x = 0, y = 0;
+    size_t least = n < m ? n : m, from = FAULT == 385 && least > 0;
+    if (FAULT == 356) return 1;
+    if (FAULT == 358) return n == m;
+    if (FAULT == 383) {
+        for (size_t i = 0; i < n; i++) x += a[i];
+        for (size_t i = 0; i < m; i++) y += b[i];
+        return n == m && x == y;
+    }
+    if (FAULT == 387 && n != m) return 1;
+    if (FAULT == 367) n = m = 1;
+    if (FAULT == 369 || (FAULT == 373 && n > m) || (FAULT == 374 && n < m)) n = m = least;
+    if (n != m) return 0;
+    if (FAULT == 368) n--;
+    if (FAULT == 375 && n > 64) n = 64;
+    if (FAULT == 376 && n == 255) n--;
+    for (size_t i = from; i < n; i++) {
+        if ((a[i] ^ b[i]) & mask) return 0;
+        if (FAULT == 372 && a[i] == 0) return 1;
+    }
+    return 1;
+}
+
+/* Fault 366: the texts of a line's tokens, one behind the other. */
+static size_t in_a_row(const ln *l, uint8_t *to) {
+    size_t n = 0;
+    for (size_t k = 0; k < l->count; k++) {
+        memcpy(to + n, l->s + l->tokens[3 * k + 1], l->tokens[3 * k + 2]);
+        n += l->tokens[3 * k + 2];
+    }
+    return n;
+}
+
+/* The line in which a token's text is looked up, or NULL where a fault leads out of it. */
+static const uint8_t *text_at(const pg *p, const ln *l, size_t at, size_t n) {
+    if (FAULT == 384) return at + n <= p->n ? p->s + at : NULL;
+    return at + n <= l->n ? l->s + at : NULL;
+}
+
+/* Whether one token of each line has the same name and text; `early` is the line before the other. */
+static int same_token(const pg *p, const ln *one, const uint8_t *x, const ln *two, const uint8_t *y, const ln *early) {
+    size_t at = FAULT == 365 ? y[1] : x[1], to = FAULT == 364 ? x[1] : y[1];
+    const uint8_t *a = text_at(p, FAULT == 363 ? two : one, at, x[2]);
+    const uint8_t *b = text_at(p, FAULT == 362 ? one : FAULT == 370 ? early : two, to, y[2]);
+    if (FAULT != 357 && (x[0] ^ y[0]) & (FAULT == 254 ? 127 : 255)) return 0;
+    if ((FAULT == 252 && x[1] != y[1]) || !a || !b) return 0;
+    if (FAULT == 386 && x[1] != y[1]) return 1;
+    if (FAULT == 381 && a[x[2]] == 9) return 0;
+    return same_text(a, x[2], b, y[2]);
+}
+
+/* Whether line i is alike with one before it, whose place is i modulo 3, or 3 for line 0. */
+static int alike(const pg *p, size_t i) {
+    ln one = p->kept[i % 3], two = p->kept[FAULT == 255 ? (i + 1) % 3 : FAULT == 256 ? 3 : (i + 2) % 3];
+    const ln *early = i > 1 ? &p->kept[(i + 1) % 3] : &two;
+    uint8_t x[255], y[255];
+    size_t n = one.count, m = two.count;
     if (i == 0 || FAULT == 246 || (FAULT == 260 && n == 0)) return 0;
     if (FAULT == 255 && i == 1) return 0;
-    memcpy(x, p->names[i % 3], n);
-    memcpy(y, p->names[place], m);
     if (FAULT == 249) return n == m;
-    if (FAULT == 248) return (n ? x[0] : 0) == (m ? y[0] : 0);
-    if (FAULT == 250) { qsort(x, n, 1, by_size); qsort(y, m, 1, by_size); }
+    if (FAULT == 248) return (n ? one.tokens[0] : 0) == (m ? two.tokens[0] : 0);
+    if (FAULT == 361 || (FAULT == 382 && n == 0 && m == 0)) return one.n == two.n && memcmp(one.s, two.s, one.n) == 0;
+    if (FAULT == 379 && one.n != two.n) return 0;
+    if (FAULT == 250 || FAULT == 380) {
+        sorted_line = one.s, qsort(one.tokens, n, 3, by_key);
+        sorted_line = two.s, qsort(two.tokens, m, 3, by_key);
+    }
     if (FAULT == 251 && n > m) n = m;
     if (FAULT == 251) m = n;
     if (n != m) return 0;
     if (FAULT == 253 && n) n--;
-    for (size_t k = 0; k < n; k++) if ((x[k] ^ y[k]) & mask) return 0;
-    return FAULT != 252 || memcmp(own, other, 3 * n) == 0;
+    if (FAULT == 366) {
+        for (size_t k = 0; k < n; k++) if (one.tokens[3 * k] != two.tokens[3 * k]) return 0;
+        return in_a_row(&one, x) == in_a_row(&two, y) && memcmp(x, y, in_a_row(&one, x)) == 0;
+    }
+    for (size_t k = 0; k < n; k++) {
+        const uint8_t *own = one.tokens + 3 * k, *other = two.tokens + 3 * k;
+        int passed_over = (FAULT == 359 && k > 0) || (FAULT == 360 && k + 1 < n) || (FAULT == 377 && k > 1) || (FAULT == 378 && k == 0);
+        if (passed_over ? own[0] != other[0] : !same_token(p, &one, own, &two, other, early)) return 0;
+    }
+    return 1;
 }
 
 static uint64_t read_line(const pg *p, const uint8_t *s, size_t n) {
@@ -872,17 +947,17 @@ static uint64_t read_line(const pg *p, const uint8_t *s, size_t n) {
     return trace_read(r.table, r.len, start, s, n, p->work, p->work_len, p->reading, room);
 }
 
-/* One line, in its buffer: its names are kept, and a class is added unless it is alike with the one before. */
+/* One line, in its buffer: it is kept, and a class is added unless it is alike with the one before. */
 static uint64_t take_line(pg *p, size_t i, const uint8_t *s, size_t n) {
     size_t which = i % 2, need;
     if (FAULT == 270) which = 0;
     if (FAULT == 271) which = 1;
     if (FAULT == 272) which = 1 - which;
     if (FAULT == 309) which = p->classes % 2;
-    uint8_t *own = p->list[which], *other = p->list[1 - which], spare[765];
+    uint8_t *own = p->list[which], spare[765];
     size_t room = p->list_len[which], least = p->list_len[0] < p->list_len[1] ? p->list_len[0] : p->list_len[1];
     uint64_t a = read_line(p, s, n);
-    if (FAULT == 307 && a >> 32 == 8) { p->counts[i % 3] = 0; p->class[p->classes++] = 0; return 0; }
+    if (FAULT == 307 && a >> 32 == 8) { p->kept[i % 3] = (ln){s, n, 0, {0}}; p->class[p->classes++] = 0; return 0; }
     if (a >> 32) return a;
     if (FAULT == 302) p->reading[p->reading_len] = 0;
     a = trace_tokens(p->lines.table, p->lines.len, FAULT == 292 ? p->lines.len / 4 - 1 : p->lines.start, p->reading, 4 * a, spare, 765);
@@ -892,15 +967,12 @@ static uint64_t take_line(pg *p, size_t i, const uint8_t *s, size_t n) {
     if (need > room && FAULT != 275) return refuse(FAULT == 276 ? 10 : 11, need);
     memcpy(own, spare, need < p->list_len[which] ? need : p->list_len[which]);
     if (FAULT == 301 && which) own[room] = 0;
-    p->counts[i % 3] = a;
-    for (size_t k = 0; k < a; k++) p->names[i % 3][k] = spare[3 * k];
-    if (i == 0) {
-        memcpy(p->names[3], p->names[0], a);
-        p->counts[3] = a;
-    }
+    p->kept[i % 3] = (ln){s, n, a, {0}};
+    memcpy(p->kept[i % 3].tokens, spare, need);
+    if (i == 0) p->kept[3] = p->kept[0];
     if (FAULT == 265 && n == 0) return 0;
     if (FAULT == 258 && a == 0) return 0;
-    p->run = FAULT == 270 || FAULT == 271 ? i + 1 : alike(p, i, own, other) ? p->run + 1 : 1;
+    p->run = FAULT == 270 || FAULT == 271 ? i + 1 : alike(p, i) ? p->run + 1 : 1;
     if (p->run > (FAULT == 247 ? 2 : 1)) return 0;
     p->class[p->classes++] = a == 0 ? (FAULT == 259 ? 255 : 0) : FAULT == 257 ? spare[need - 3] : spare[0];
     return 0;
@@ -996,7 +1068,7 @@ uint64_t trace_page(const uint8_t *line_table, size_t line_table_len, uint64_t l
                     size_t work_len, uint8_t *reading, size_t reading_len, uint8_t *first, size_t first_len,
                     uint8_t *second, size_t second_len, uint8_t *out, size_t out_len) {
     pg p = {{line_table, line_table_len, line_start}, {page_table, page_table_len, page_start}, page, page_len, work, reading,
-            {first, second}, work_len, reading_len, {first_len, second_len}, out, out_len, {{0}}, {0}, {0}, 0, 0};
+            {first, second}, work_len, reading_len, {first_len, second_len}, out, out_len, {{0}}, {0}, 0, 0};
     size_t count = line_count(&p);
     uint64_t e;
     if (FAULT == 296 && page_len && page[page_len] == 9) return 0;

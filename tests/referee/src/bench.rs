@@ -1,8 +1,8 @@
 //! The lines on the bench of document 01: tables T1 to T4, cases A to J and
 //! the edges. And lines for Other, for empty tagged parts, for the notation, for
 //! names that must come first, for lengths and record numbers that are not the
-//! true ones, for pages, and for alternatives, requests 1 to 3, 5, 6, 8 and 9 of
-//! document 02.
+//! true ones, for pages, and for alternatives, requests 1 to 3, 5, 6 and 8 to 10
+//! of document 02.
 
 use crate::calls::{self, Reader};
 use crate::page::{Page, Rooms, Rules, Who};
@@ -429,24 +429,29 @@ fn orders() -> Vec<Stated> {
     ]
 }
 
-/// Pages by T1, whose names are 1 to 3, and by page rules that read the class
-/// bytes one by one, whichever they are; and by some that do not.
+/// Pages by T1, whose names are 1 to 3 and tell the texts, and by digits; by page
+/// rules that read the class bytes one by one, whichever they are, and by some that
+/// do not.
 fn pages() -> Vec<Stated> {
     let rules = |table: &[u8]| Rules { table: table.to_vec(), start: table.len() as u64 / 4 - 1 };
     let each = [2, 0, 255, 0, 5, 0, 0, 0];
     let ample = Rooms { work: 70_000, reading: 400, first: 30, second: 30 };
-    let page = |name, text: &[u8], runs: &[u8], rooms, number, written| {
-        let (by_lines, by_runs) = (rules(T1), rules(runs));
+    let by = |lines: &[u8], name, text: &[u8], runs: &[u8], rooms, number, written| {
+        let (by_lines, by_runs) = (rules(lines), rules(runs));
         let request = Request::Page(Page { by_lines, by_runs, text: text.to_vec(), rooms });
         Stated { name, request, number, written }
     };
-    let read = |name, text: &[u8], classes: &[u8]| {
+    let read_by = |lines: &[u8], name, text: &[u8], classes: &[u8]| {
         let n = classes.len() as u8;
         let reading = [5, n, n, 1].into_iter().chain(classes.iter().flat_map(|&c| [1, c, 1, 0]));
-        page(name, text, &each, ample, 1 + u64::from(n), reading.collect())
+        by(lines, name, text, &each, ample, 1 + u64::from(n), reading.collect())
     };
+    let read = |name, text: &[u8], classes: &[u8]| read_by(T1, name, text, classes);
+    // Blanks, and then digits, which are a token 8.
+    let digits = [2, 0x20, 0x20, 0, 5, 0, 0, 0, 2, 0x30, 0x39, 0, 5, 2, 0, 8, 4, 1, 3, 0];
+    let lift = |name, text: &[u8], classes: &[u8]| read_by(&digits, name, text, classes);
     let refused = |name, text: &[u8], runs: &[u8], rooms, who: Who, number| {
-        page(name, text, runs, rooms, who.names(number), vec![])
+        by(T1, name, text, runs, rooms, who.names(number), vec![])
     };
     let short = |first, second| Rooms { first, second, ..ample };
     vec![
@@ -456,7 +461,12 @@ fn pages() -> Vec<Stated> {
         read("a closing byte 10", b"ab\n", &[2]),
         read("an empty line at the end", b"ab\n\n", &[2, 0]),
         read("two lines alike", b"ab\nab\n", &[2]),
-        read("names alike, other texts", b"aab\naab\nabc\nbca\nbcab", &[1, 1, 3, 3]),
+        read("one class, other names", b"aab\naab\nabc\nbca\nbcab", &[1, 1, 3, 3]),
+        lift("29 and 31", b"29\n31\n", &[8, 8]),
+        lift("31 twice", b"29\n31\n31\n", &[8, 8]),
+        lift("31 at another offset", b"31\n  31\n 31\n", &[8]),
+        lift("2 and 29, 29 and 2", b"2\n29\n2\n", &[8, 8, 8]),
+        lift("no token, other blanks", b"\n  \n \n", &[0]),
         read("a run, and again", b"a\na\nab\na\n", &[1, 2, 1]),
         read("one name more", b"a\naa\na", &[1, 1, 1]),
         read("255 lines", &b"\n".repeat(255), &[0]),

@@ -154,6 +154,10 @@ fn live(h: &mut Harness) {
 fn page(h: &mut Harness) {
     pages::small(h, 7);
     h.done("all pages of up to 7 bytes");
+    pages::neighbours(h, 4);
+    h.done("pages of every two lines of up to 4 bytes");
+    pages::texts(h);
+    h.done("pages of lines with other texts");
     pages::tables(h, 3);
     h.done("pages by all tables of up to 3 records");
     pages::bytes(h);

@@ -1,9 +1,10 @@
-//! A page of lines, request 8 of document 02, from its words: the page is
+//! A page of lines, requests 8 and 10 of document 02, from their words: the page is
 //! parted, each line is read and its tokens are listed, neighbours are held
 //! against each other, and the classes of the runs are read as a line.
 
 use crate::calls::{listed, open, work_need, Reader};
 use crate::pairs::names;
+use crate::random::{changed_line, Rng};
 use crate::table::{pack, Refusal, Table};
 
 pub const MOST_LINES: usize = 255;
@@ -72,15 +73,22 @@ pub fn lines(page: &[u8]) -> Vec<&[u8]> {
     lines
 }
 
-/// A line that was read: the bytes of its reading, and its tokens.
+/// A line that was read: its bytes, those of its reading, and its tokens.
 pub struct Line {
+    text: Vec<u8>,
     reading_len: usize,
     pub tokens: Vec<u8>,
 }
 
-/// Whether two neighbouring lines are alike.
+/// The name and the text of each token.
+fn named_texts(line: &Line) -> Vec<(u8, &[u8])> {
+    let text = |token: &[u8]| &line.text[token[1].into()..][..token[2].into()];
+    line.tokens.chunks_exact(3).map(|token| (token[0], text(token))).collect()
+}
+
+/// Whether two neighbouring lines are alike, wherever their tokens stand.
 fn alike(one: &Line, two: &Line) -> bool {
-    names(&one.tokens) == names(&two.tokens)
+    named_texts(one) == named_texts(two)
 }
 
 fn class(line: &Line) -> u8 {
@@ -105,7 +113,7 @@ fn cut(
     if tokens.len() > own {
         return Err(Refusal { number: 11, detail: tokens.len() as u32 });
     }
-    Ok(Line { reading_len: reading.len(), tokens })
+    Ok(Line { text: line.to_vec(), reading_len: reading.len(), tokens })
 }
 
 /// All lines in order, or the refusal of the first that is refused, with its
@@ -176,12 +184,33 @@ pub fn least_rooms(
     Some((classes(&list), rooms))
 }
 
+/// A line near this one with the same names, if it has any and a few tries find
+/// one: by a blank more, or by another small change.
+pub fn near_line(
+    reader: &mut Reader,
+    rules: (&Table, usize),
+    rng: &mut Rng,
+    line: &[u8],
+) -> Option<Vec<u8>> {
+    let mut list = |line: &[u8]| {
+        let cut = cut(reader, rules, line, Rooms::ALL, usize::MAX).ok()?;
+        Some(names(&cut.tokens))
+    };
+    let own = list(line).filter(|own| !own.is_empty())?;
+    let blank = |rng: &mut Rng| {
+        let (before, behind) = line.split_at(rng.below(line.len() + 1));
+        [before, b" ", behind].concat()
+    };
+    let blanks = rng.once_in(2);
+    let mut near = (0..12).map(|_| if blanks { blank(rng) } else { changed_line(rng, line) });
+    near.find(|near| near != line && list(near).as_ref() == Some(&own))
+}
+
 #[cfg(test)]
 mod tests {
     use super::*;
     use crate::bench::T1;
-    use crate::random::{page, table, Grower, Rng, Room};
-    use crate::table::{Kind, Record};
+    use crate::random::{more_tags, page, table, with_blanks, Grower, Room};
 
     const EACH: &[u8] = &[2, 0, 255, 0, 5, 0, 0, 0];
 
@@ -211,48 +240,75 @@ mod tests {
         all
     }
 
-    /// The class bytes of lines that were read, by their names alone: a line
-    /// counts unless the one before has the same.
-    fn by_names(lists: &[Vec<u8>]) -> Vec<u8> {
+    /// The bytes of a line that are in a token, each with that one's name and
+    /// whether it is its first byte.
+    fn told(line: &[u8], tokens: &[u8]) -> Vec<(u8, bool, u8)> {
+        let mut list = vec![];
+        for (place, &byte) in line.iter().enumerate() {
+            for token in tokens.chunks(3) {
+                let (from, length) = (usize::from(token[1]), usize::from(token[2]));
+                if (from..from + length).contains(&place) {
+                    list.push((token[0], place == from, byte));
+                }
+            }
+        }
+        list
+    }
+
+    /// The class bytes of lines that were read, by what is told of them: a line
+    /// counts unless it is what is told of the one before.
+    fn by_bytes_told(lists: &[Vec<(u8, bool, u8)>]) -> Vec<u8> {
         let counts = |i: &usize| *i == 0 || lists[*i] != lists[*i - 1];
-        (0..lists.len()).filter(counts).map(|i| *lists[i].first().unwrap_or(&0)).collect()
+        (0..lists.len()).filter(counts).map(|i| lists[i].first().map_or(0, |told| told.0)).collect()
     }
 
     /// Random pages by both roads; enough of them have runs of several lines,
-    /// neighbours with the same class that are not alike, and lines without a
-    /// token.
+    /// neighbours with the same class that are not alike, lines without a token,
+    /// neighbours with the same names and other texts, and neighbours that are
+    /// alike with tokens at other offsets.
     #[test]
     fn by_both_roads() {
         let mut rng = Rng::new(11);
         let mut reader = Reader::default();
-        let (mut folded, mut unlike, mut bare) = (0, 0, 0);
+        let (mut folded, mut unlike, mut bare, mut other_texts, mut moved) = (0, 0, 0, 0, 0);
         for _ in 0..3000 {
             let below = 1 + rng.below(10);
             let mut t = table(&mut rng, below);
-            t.records.push(Record { kind: Kind::Star(below - 1), tag: 0 });
-            let records = below + 1;
+            more_tags(&mut rng, &mut t);
+            let t = with_blanks(&t, below - 1);
+            let records = below + 3;
             let line = |rng: &mut Rng| {
-                let mut room = Room { bytes: rng.below(5) as isize, eager: false };
+                let mut room = Room { bytes: rng.below(9) as isize, eager: false };
                 let value = Grower::new(&t).value(rng, records - 1, &mut room);
                 value.expect("a Star spells some line").line()
             };
-            let pool = [line(&mut rng), line(&mut rng), line(&mut rng)];
+            let mut pool = vec![line(&mut rng), line(&mut rng)];
+            for line in pool.clone() {
+                pool.extend(near_line(&mut reader, (&t, records - 1), &mut rng, &line));
+            }
             let count = rng.below(7);
             let page = page(&mut rng, &pool, count);
             assert_eq!(lines(&page), by_bytes(&page));
             let Some((found, rooms)) = least_rooms(&mut reader, (&t, records - 1), &page) else {
                 continue;
             };
-            let mut lists = Vec::new();
+            let (mut lists, mut listed) = (Vec::new(), Vec::new());
             for line in by_bytes(&page) {
                 let mut out = vec![0; 3 * line.len()];
                 let reading = reader.reading(&t, records - 1, &line).expect("a reading");
                 let bytes = t.bytes();
                 let count =
                     crate::calls::trace_tokens(&bytes, records as u64 - 1, &reading, &mut out);
-                lists.push(names(&out[..3 * count as usize]));
+                out.truncate(3 * count as usize);
+                lists.push(told(&line, &out));
+                listed.push(out);
             }
-            assert_eq!(found, by_names(&lists));
+            assert_eq!(found, by_bytes_told(&lists));
+            let neighbours = || (1..lists.len()).map(|i| (i - 1, i));
+            let same_names = |a: usize, b: usize| names(&listed[a]) == names(&listed[b]);
+            let same = |a: usize, b: usize| lists[a] == lists[b];
+            other_texts += u32::from(neighbours().any(|(a, b)| same_names(a, b) && !same(a, b)));
+            moved += u32::from(neighbours().any(|(a, b)| same(a, b) && listed[a] != listed[b]));
             folded += u32::from(found.len() < lists.len());
             unlike += u32::from(found.windows(2).any(|two| two[0] == two[1]));
             bare += u32::from(found.contains(&0));
@@ -278,6 +334,7 @@ mod tests {
             assert!(out[4..].chunks(4).map(|r| r[1]).eq(found.iter().copied()));
         }
         assert!(folded > 500 && unlike > 100 && bare > 200, "{folded} {unlike} {bare}");
+        assert!(other_texts > 200 && moved > 100, "{other_texts} {moved}");
     }
 
     #[test]

@@ -5,9 +5,10 @@ use crate::harness::{page, Harness};
 use crate::sampled::{grown, start, Size};
 use referee::bench::T1;
 use referee::calls::work_need;
-use referee::page::{least_rooms, lines, Rooms, Rules, MOST_LINES};
+use referee::page::{least_rooms, lines, near_line, Rooms, Rules, MOST_LINES};
 use referee::random::{
-    all_tables, bad_start, changed_line, damaged_table, page as random_page, star_nest, tagged, Rng,
+    all_tables, bad_start, changed_line, damaged_table, more_tags, page as random_page, star_nest,
+    tagged, with_blanks, Rng,
 };
 use referee::table::{check, Kind, Letter, Record, Table};
 
@@ -25,6 +26,18 @@ pub fn each_class() -> Rules {
 fn two_names(a: u8, b: u8) -> Rules {
     let letters = [2, 0x61, 0x61, a, 2, 0x62, 0x62, b, 3, 0, 1, 0, 6, 0x61, 0x62, 0];
     last(&[&letters[..], &[3, 2, 3, 0, 5, 4, 0, 0]].concat())
+}
+
+/// Line rules by which the text a has one name, and behind a c the other.
+fn by_place(alone: u8, behind: u8) -> Rules {
+    let pair = [2, 0x63, 0x63, 0, 2, 0x61, 0x61, behind, 4, 0, 1, 0];
+    last(&[&pair[..], &[2, 0x61, 0x61, alone, 3, 2, 3, 0, 5, 4, 0, 0]].concat())
+}
+
+/// Line rules for any bytes, of which each row of others than c is a token.
+fn rows() -> Rules {
+    let row = [6, 0x63, 0x63, 0, 6, 0x63, 0x63, 0, 5, 1, 0, 0, 4, 0, 2, 1];
+    last(&[&row[..], &[2, 0x63, 0x63, 0, 3, 3, 4, 0, 5, 5, 0, 0]].concat())
 }
 
 /// The least rooms for a page, and the bytes of its own reading; where a line is
@@ -76,7 +89,7 @@ fn each_text(words: &[&[u8]], count: usize, text: &mut Vec<u8>, visit: &mut dyn 
 }
 
 /// All pages of up to so many bytes a, b, c and 10, by line rules with two names
-/// and with the same name twice.
+/// and with the same name twice; and of a, c and 10, where one text has two names.
 pub fn small(h: &mut Harness, longest: usize) {
     for (a, b) in [(1, 2), (255, 255), (127, 255)] {
         h.from(format!("all short pages, names {a} and {b}"));
@@ -86,6 +99,65 @@ pub fn small(h: &mut Harness, longest: usize) {
                 each_room(h, &by_lines, &by_runs, text);
             });
         }
+    }
+    for (alone, behind) in [(1, 2), (127, 255), (255, 127)] {
+        h.from(format!("all short pages, one text with the names {alone} and {behind}"));
+        let (by_lines, by_runs) = (by_place(alone, behind), each_class());
+        for count in 0..=longest {
+            each_text(&[b"a", b"c", b"\n"], count, &mut vec![], &mut |text| {
+                each_room(h, &by_lines, &by_runs, text);
+            });
+        }
+    }
+}
+
+/// A page with the least rooms.
+fn put_least(h: &mut Harness, by_lines: &Rules, by_runs: &Rules, text: &[u8]) {
+    let (rooms, out) = least(h, by_lines, by_runs, text);
+    h.put(page(by_lines, by_runs, text, rooms), out);
+}
+
+/// Every two lines of up to so many bytes a, b and c, of which the rows of a and b
+/// are tokens of one name.
+pub fn neighbours(h: &mut Harness, longest: usize) {
+    h.from("every two short lines");
+    let mut all = vec![];
+    for count in 0..=longest {
+        each_text(&[b"a", b"b", b"c"], count, &mut vec![], &mut |line| all.push(line.to_vec()));
+    }
+    let (by_lines, by_runs) = (rows(), each_class());
+    for one in &all {
+        for two in &all {
+            put_least(h, &by_lines, &by_runs, &[one, &b"\n"[..], two].concat());
+        }
+    }
+}
+
+/// Lines that are one token: two that differ in one byte, whichever it is, and two
+/// of every length that differ at the start, inside, at the end, or by one byte
+/// more.
+pub fn texts(h: &mut Harness) {
+    h.from("two lines of one token each");
+    let (by_lines, by_runs) = (last(&[2, 0, 255, 0, 5, 0, 0, 1]), each_class());
+    let mut both = |one: &[u8], two: &[u8]| {
+        for lines in [[one, two, two], [two, one, one]] {
+            put_least(h, &by_lines, &by_runs, &lines.join(&10));
+        }
+    };
+    for byte in (0..=255u8).filter(|&byte| byte != 10) {
+        for other in [byte ^ 128, byte.wrapping_add(1), 0].into_iter().filter(|&byte| byte != 10) {
+            both(&[0x61, byte, 0x61], &[0x61, other, 0x61]);
+        }
+        both(&[byte, 0x61], &[byte, 0x62]);
+    }
+    for length in (1..20).chain(60..70).chain(126..=130).chain(250..=255) {
+        let one = vec![0x61; length];
+        for place in [0, length / 2, length - 1] {
+            let mut two = one.clone();
+            two[place] = 0x62;
+            both(&one, &two);
+        }
+        both(&one, &one[1..]);
     }
 }
 
@@ -117,13 +189,17 @@ pub fn tables(h: &mut Harness, records: usize) {
     }
 }
 
-/// Every byte in a line and as the end of one, and every name.
+/// Every byte in a line and as the end of one, and every name, also beside each
+/// that differs from it in one bit.
 pub fn bytes(h: &mut Harness) {
     for byte in 0..=255 {
         h.from(format!("byte {byte} in a page"));
         let (by_lines, by_runs) = (two_names(byte, 0), each_class());
         each_room(h, &by_lines, &by_runs, &[0x61, byte, 0x61, 10, byte, 0x62, 0x61]);
         each_room(h, &by_lines, &by_runs, &[byte, byte]);
+        for bit in 0..8 {
+            put_least(h, &by_place(byte, byte ^ 1 << bit), &by_runs, b"a\nca\nca\na");
+        }
         // Class bytes that the page rules hold, and do not.
         for letter in [[2, byte, byte, 0], [6, byte, byte, 0]] {
             each_room(h, &by_lines, &last(&letter), b"a");
@@ -270,18 +346,19 @@ fn put_mixed(h: &mut Harness, rng: &mut Rng, by_lines: &Rules, by_runs: &Rules, 
 /// Pages of one random table's lines: as they are, with a line that is changed or
 /// too long, and with very many lines.
 pub fn round(h: &mut Harness, rng: &mut Rng, size: Size) {
-    let (mut table, k) = start(rng, size);
-    // Some letters more are tagged, so that most lines have a token.
-    for record in &mut table.records {
-        if matches!(record.kind, Kind::Letter(_)) && rng.once_in(3) {
-            record.tag = rng.choose(&[1, 2, 10, 255]);
-        }
+    let (mut table, mut k) = start(rng, size);
+    more_tags(rng, &mut table);
+    if k < 250 && rng.once_in(3) {
+        (table, k) = (with_blanks(&table, k), k + 3);
     }
     let by_lines = Rules { table: table.bytes(), start: k as u64 };
     let mut pool = vec![];
     for _ in 0..1 + rng.below(4) {
         let mut line = grown(rng, &table, k, size).map_or_else(Vec::new, |v| v.line());
         line.truncate(MOST_LINES);
+        if size != Size::Long {
+            pool.extend(near_line(&mut h.reader, (&table, k), rng, &line));
+        }
         pool.push(line);
     }
     let few = rng.below(9);
@@ -291,8 +368,7 @@ pub fn round(h: &mut Harness, rng: &mut Rng, size: Size) {
     let found = least_rooms(&mut h.reader, (&table, k), &text);
     let by_runs = page_rules(rng, &found.map_or(vec![], |found| found.0));
     put_mixed(h, rng, &by_lines, &by_runs, &text);
-    let (rooms, out) = least(h, &by_lines, &by_runs, &text);
-    h.put(page(&by_lines, &by_runs, &text, rooms), out);
+    put_least(h, &by_lines, &by_runs, &text);
     if size != Size::Long {
         each_room(h, &by_lines, &by_runs, &text);
     }

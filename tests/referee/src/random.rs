@@ -398,6 +398,25 @@ pub fn changed_line(rng: &mut Rng, line: &[u8]) -> Vec<u8> {
     line
 }
 
+/// Tags some letters more, so that most lines have a token.
+pub fn more_tags(rng: &mut Rng, table: &mut Table) {
+    for record in &mut table.records {
+        if matches!(record.kind, Kind::Letter(_)) && rng.once_in(3) {
+            record.tag = rng.choose(&[1, 2, 10, 255]);
+        }
+    }
+}
+
+/// Lines of record k in any number, and blanks, which are in no token, between
+/// them. The records behind k are left out.
+pub fn with_blanks(table: &Table, k: usize) -> Table {
+    let mut records = table.records[..=k].to_vec();
+    let blank = Kind::Letter(Letter::range(0x20, 0x20));
+    records
+        .extend([blank, Kind::Or(k, k + 1), Kind::Star(k + 2)].map(|kind| Record { kind, tag: 0 }));
+    Table { records }
+}
+
 /// A page of so many of these lines, now and then the same one again, with a
 /// closing byte 10 or without.
 pub fn page(rng: &mut Rng, lines: &[Vec<u8>], count: usize) -> Vec<u8> {

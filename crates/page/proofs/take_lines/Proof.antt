@@ -5,15 +5,15 @@ use mathlib.Core.Path.{sym, refl, _∙_}
 use native.Mathlib.Omega.{arith}
 use borrow.Author.Needs.{needs}
 use lib.ListN.{length}
-use Rattle.page.proofs.Going.{lengths-kept, Lengths, Going, going-first, going-end, class-room, going-refused, going-on}
+use Rattle.page.proofs.Going.{lengths-kept, Lengths, Going, going-first, prior-within, going-end, class-room, going-refused, going-on}
 use Rattle.page.proofs.take_lines.Statement.{statement}
 use Rattle.page.proofs.take_lines.Tie as tie
 
 abbrev Inv-loop : tie.InvT-loop
-Inv-loop table start page work₀ reading₀ first₀ second₀ classes₀ at₀ number₀ size₀ count₀ work reading first second classes at number size count = (Lengths (record { work = length work₀; reading = length reading₀; first = length first₀; second = length second₀ }) work reading first second classes) × (Going (record { table = table; start = start }) (record { work = length work₀; reading = length reading₀; first = length first₀; second = length second₀ }) page first second classes at number size count)
+Inv-loop table start page work₀ reading₀ first₀ second₀ classes₀ prior-start₀ prior-end₀ at₀ number₀ size₀ count₀ work reading first second classes prior-start prior-end at number size count = (Lengths (record { work = length work₀; reading = length reading₀; first = length first₀; second = length second₀ }) work reading first second classes) × (Going (record { table = table; start = start }) (record { work = length work₀; reading = length reading₀; first = length first₀; second = length second₀ }) page first second classes prior-start prior-end at number size count)
 
 abbrev μ-loop : tie.MeasureT-loop
-μ-loop table start page work₀ reading₀ first₀ second₀ classes₀ at₀ number₀ size₀ count₀ work reading first second classes at number size count = length page - at
+μ-loop table start page work₀ reading₀ first₀ second₀ classes₀ prior-start₀ prior-end₀ at₀ number₀ size₀ count₀ work reading first second classes prior-start prior-end at number size count = length page - at
 
 loop-holds : tie.Need-loop-holds Inv-loop μ-loop
 loop-holds c = (record { of-work = refl; of-reading = refl; of-first = refl; of-second = refl; of-classes = c .before .before .before .before .before .before .before .pre .1 }, going-first _ _ _ _ _ _)
@@ -30,44 +30,53 @@ part-take-by-parity-start c = search needs
 part-take-by-parity-end : tie.Need-part-take-by-parity-end Inv-loop μ-loop
 part-take-by-parity-end c = search needs
 
+sub-take-by-parity-2 : tie.Need-sub-take-by-parity-2 Inv-loop μ-loop
+sub-take-by-parity-2 c = c .before .before .before .loop .inv .1 .behind
+
+part-take-by-parity-start-2 : tie.Need-part-take-by-parity-start-2 Inv-loop μ-loop
+part-take-by-parity-start-2 c = c .before .before .before .loop .inv .1 .behind
+
+part-take-by-parity-end-2 : tie.Need-part-take-by-parity-end-2 Inv-loop μ-loop
+part-take-by-parity-end-2 c = c .before .before .before .loop .inv .1 .ended
+
 take-by-parity-requires : tie.Need-take-by-parity-requires Inv-loop μ-loop
-take-by-parity-requires c κs = (class-room (c .before .before .before .before .before .before .before .before .loop .inv .1) (c .before .before .before .before .before .before .before .before .loop .inv .0) (c .before .before .before .before .before .before .line-end .ensures) (omega arith) (c .before .before .before .before .before .before .before .before .before .before .before .before .before .before .before .before .pre .0), c .before .before .before .before .before .before .before .before .loop .inv .1 .held)
+take-by-parity-requires c κs = (class-room (c .before .before .before .before .before .before .before .before .before .loop .inv .1) (c .before .before .before .before .before .before .before .before .before .loop .inv .0) (c .before .before .before .before .before .before .before .line-end .ensures) (omega arith) (c .before .before .before .before .before .before .before .before .before .before .before .before .before .before .before .before .before .pre .0), (c .before .before .before .before .before .before .before .before .before .loop .inv .1 .held, prior-within (c .before .before .before .before .before .before .before .before .before .loop .inv .1) (c .before .before .before .before .before .before .before .before .before .loop .inv .0)))
 
 enum-known-answer : tie.Need-enum-known-answer Inv-loop μ-loop
 enum-known-answer c = search needs
 
 same-length : tie.Need-same-length Inv-loop μ-loop
-same-length c = c .before .before .before .before .before .before .before .before .before .before .before .before .before .take-by-parity .kept .1 .1 .1 .1 .1 .0 ∙ c .before .before .before .before .before .before .before .before .before .before .before .before .before .before .before .before .before .before .before .before .before .before .loop .inv .0 .of-work
+same-length c = c .before .before .before .before .before .before .before .before .before .before .before .before .before .take-by-parity .kept .1 .1 .1 .1 .1 .1 .0 ∙ c .before .before .before .before .before .before .before .before .before .before .before .before .before .before .before .before .before .before .before .before .before .before .before .loop .inv .0 .of-work
 
 same-length-2 : tie.Need-same-length-2 Inv-loop μ-loop
-same-length-2 c = c .before .before .before .before .before .before .before .before .before .before .before .before .before .take-by-parity .kept .1 .1 .1 .1 .1 .1 .0 ∙ c .before .before .before .before .before .before .before .before .before .before .before .before .before .before .before .before .before .before .before .before .before .before .loop .inv .0 .of-reading
+same-length-2 c = c .before .before .before .before .before .before .before .before .before .before .before .before .before .take-by-parity .kept .1 .1 .1 .1 .1 .1 .1 .0 ∙ c .before .before .before .before .before .before .before .before .before .before .before .before .before .before .before .before .before .before .before .before .before .before .before .loop .inv .0 .of-reading
 
 same-length-3 : tie.Need-same-length-3 Inv-loop μ-loop
-same-length-3 c = c .before .before .before .before .before .before .before .before .before .before .before .before .before .take-by-parity .kept .1 .1 .1 .1 .1 .1 .1 .0 ∙ c .before .before .before .before .before .before .before .before .before .before .before .before .before .before .before .before .before .before .before .before .before .before .loop .inv .0 .of-first
+same-length-3 c = c .before .before .before .before .before .before .before .before .before .before .before .before .before .take-by-parity .kept .1 .1 .1 .1 .1 .1 .1 .1 .0 ∙ c .before .before .before .before .before .before .before .before .before .before .before .before .before .before .before .before .before .before .before .before .before .before .before .loop .inv .0 .of-first
 
 same-length-4 : tie.Need-same-length-4 Inv-loop μ-loop
-same-length-4 c = c .before .before .before .before .before .before .before .before .before .before .before .before .before .take-by-parity .kept .1 .1 .1 .1 .1 .1 .1 .1 .0 ∙ c .before .before .before .before .before .before .before .before .before .before .before .before .before .before .before .before .before .before .before .before .before .before .loop .inv .0 .of-second
+same-length-4 c = c .before .before .before .before .before .before .before .before .before .before .before .before .before .take-by-parity .kept .1 .1 .1 .1 .1 .1 .1 .1 .1 .0 ∙ c .before .before .before .before .before .before .before .before .before .before .before .before .before .before .before .before .before .before .before .before .before .before .before .loop .inv .0 .of-second
 
 same-length-5 : tie.Need-same-length-5 Inv-loop μ-loop
-same-length-5 c = c .before .before .before .before .before .before .before .before .before .before .before .before .before .take-by-parity .kept .1 .1 .1 .1 .1 .1 .1 .1 .1 .0 ∙ c .before .before .before .before .before .before .before .before .before .before .before .before .before .before .before .before .before .before .before .before .before .before .loop .inv .0 .of-classes ∙ sym (c .before .before .before .before .before .before .before .before .before .before .before .before .before .before .before .before .before .before .before .before .before .before .before .before .before .before .before .before .before .before .pre .1)
+same-length-5 c = c .before .before .before .before .before .before .before .before .before .before .before .before .before .take-by-parity .kept .1 .1 .1 .1 .1 .1 .1 .1 .1 .1 .0 ∙ c .before .before .before .before .before .before .before .before .before .before .before .before .before .before .before .before .before .before .before .before .before .before .before .loop .inv .0 .of-classes ∙ sym (c .before .before .before .before .before .before .before .before .before .before .before .before .before .before .before .before .before .before .before .before .before .before .before .before .before .before .before .before .before .before .before .pre .1)
 
 returns : tie.Need-returns Inv-loop μ-loop
-returns c = going-refused (c .before .before .before .before .before .before .before .before .before .before .before .before .before .before .before .before .before .before .before .before .before .before .loop .inv .1) (c .before .before .before .before .before .before .before .before .before .before .before .before .before .before .before .before .before .before .before .before .before .before .loop .inv .0) (c .before .before .before .before .before .before .before .before .before .before .before .before .before .before .before .before .before .before .before .before .line-end .ensures) (omega arith) (c .before .before .before .before .before .before .before .before .before .before .before .before .before .take-by-parity .last .1 .1 .1 .1 .1 .1 .1 .0) (c .before .before .before .before .before .before .before .before .before .before .before .before .before .take-by-parity .last .1 .1 .1 .1 .1 .1 .1 .1 .0) (c .before .before .before .before .before .before .before .before .before .before .before .before .before .take-by-parity .ensures .1) (c .before .answer .given .0 .0) (c .before .answer .given .1)
+returns c = going-refused (c .before .before .before .before .before .before .before .before .before .before .before .before .before .before .before .before .before .before .before .before .before .before .before .loop .inv .1) (c .before .before .before .before .before .before .before .before .before .before .before .before .before .before .before .before .before .before .before .before .before .before .before .loop .inv .0) (c .before .before .before .before .before .before .before .before .before .before .before .before .before .before .before .before .before .before .before .before .before .line-end .ensures) (omega arith) (c .before .before .before .before .before .before .before .before .before .before .before .before .before .take-by-parity .last .1 .1 .1 .1 .1 .1 .1 .1 .0) (c .before .before .before .before .before .before .before .before .before .before .before .before .before .take-by-parity .last .1 .1 .1 .1 .1 .1 .1 .1 .1 .0) (c .before .before .before .before .before .before .before .before .before .before .before .before .before .take-by-parity .ensures .1) (c .before .answer .given .0 .0) (c .before .answer .given .1)
 
 enum-told : tie.Need-enum-told Inv-loop μ-loop
 enum-told c = search needs
 
 next-line-requires : tie.Need-next-line-requires Inv-loop μ-loop
-next-line-requires c κs = c .before .before .before .before .before .before .before .before .before .before .before .before .before .before .before .before .before .before .before .line-end .ensures .inside
+next-line-requires c κs = c .before .before .before .before .before .before .before .before .before .before .before .before .before .before .before .before .before .before .before .before .line-end .ensures .inside
 
 add-number : tie.Need-add-number Inv-loop μ-loop
-add-number c = omega arith
+add-number c = omega (arith, c .before .before .before .before .before .before .before .before .before .before .before .before .before .before .before .before .before .before .before .before .before .before .before .loop .inv .1 .numbered, c .before .before .before .before .before .before .before .before .before .before .before .before .before .before .before .before .before .before .before .before .before .before .before .before .before .before .before .before .before .before .before .pre .0)
 
 loop-less : tie.Need-loop-less Inv-loop μ-loop
 loop-less c = omega arith
 
 loop-again : tie.Need-loop-again Inv-loop μ-loop
-loop-again c = (lengths-kept (c .before .before .before .before .before .before .before .before .before .before .before .before .before .before .before .before .before .before .before .before .before .before .loop .inv .0) (c .before .before .before .before .before .before .before .before .before .before .before .before .before .take-by-parity .kept .1 .1 .1 .1 .1 .0) (c .before .before .before .before .before .before .before .before .before .before .before .before .before .take-by-parity .kept .1 .1 .1 .1 .1 .1 .0) (c .before .before .before .before .before .before .before .before .before .before .before .before .before .take-by-parity .kept .1 .1 .1 .1 .1 .1 .1 .0) (c .before .before .before .before .before .before .before .before .before .before .before .before .before .take-by-parity .kept .1 .1 .1 .1 .1 .1 .1 .1 .0) (c .before .before .before .before .before .before .before .before .before .before .before .before .before .take-by-parity .kept .1 .1 .1 .1 .1 .1 .1 .1 .1 .0), going-on (c .before .before .before .before .before .before .before .before .before .before .before .before .before .before .before .before .before .before .before .before .before .before .loop .inv .1) (c .before .before .before .before .before .before .before .before .before .before .before .before .before .before .before .before .before .before .before .before .before .before .loop .inv .0) (c .before .before .before .before .before .before .before .before .before .before .before .before .before .before .before .before .before .before .before .before .line-end .ensures) (omega arith) (c .before .before .before .before .before .before .before .before .before .before .before .before .before .take-by-parity .last .1 .1 .1 .1 .1 .1 .1 .0) (c .before .before .before .before .before .before .before .before .before .before .before .before .before .take-by-parity .last .1 .1 .1 .1 .1 .1 .1 .1 .0) (c .before .before .before .before .before .before .before .before .before .before .before .before .before .take-by-parity .ensures .1) (c .before .enum-told .given .0 .0) _ (c .before .enum-told .given .1) (c .next-line .ensures) (c .before .before .before .before .before .before .before .before .before .before .before .before .before .take-by-parity .kept .1 .1 .1 .1 .1 .1 .1 .0) (c .before .before .before .before .before .before .before .before .before .before .before .before .before .take-by-parity .kept .1 .1 .1 .1 .1 .1 .1 .1 .0))
+loop-again c = (lengths-kept (c .before .before .before .before .before .before .before .before .before .before .before .before .before .before .before .before .before .before .before .before .before .before .before .loop .inv .0) (c .before .before .before .before .before .before .before .before .before .before .before .before .before .take-by-parity .kept .1 .1 .1 .1 .1 .1 .0) (c .before .before .before .before .before .before .before .before .before .before .before .before .before .take-by-parity .kept .1 .1 .1 .1 .1 .1 .1 .0) (c .before .before .before .before .before .before .before .before .before .before .before .before .before .take-by-parity .kept .1 .1 .1 .1 .1 .1 .1 .1 .0) (c .before .before .before .before .before .before .before .before .before .before .before .before .before .take-by-parity .kept .1 .1 .1 .1 .1 .1 .1 .1 .1 .0) (c .before .before .before .before .before .before .before .before .before .before .before .before .before .take-by-parity .kept .1 .1 .1 .1 .1 .1 .1 .1 .1 .1 .0), going-on (c .before .before .before .before .before .before .before .before .before .before .before .before .before .before .before .before .before .before .before .before .before .before .before .loop .inv .1) (c .before .before .before .before .before .before .before .before .before .before .before .before .before .before .before .before .before .before .before .before .before .before .before .loop .inv .0) (c .before .before .before .before .before .before .before .before .before .before .before .before .before .before .before .before .before .before .before .before .before .line-end .ensures) (omega arith) (c .before .before .before .before .before .before .before .before .before .before .before .before .before .take-by-parity .last .1 .1 .1 .1 .1 .1 .1 .1 .0) (c .before .before .before .before .before .before .before .before .before .before .before .before .before .take-by-parity .last .1 .1 .1 .1 .1 .1 .1 .1 .1 .0) (c .before .before .before .before .before .before .before .before .before .before .before .before .before .take-by-parity .ensures .1) (c .before .enum-told .given .0 .0) _ (c .before .enum-told .given .1) (c .next-line .ensures) (c .before .before .before .before .before .before .before .before .before .before .before .before .before .take-by-parity .kept .1 .1 .1 .1 .1 .1 .1 .1 .0) (c .before .before .before .before .before .before .before .before .before .before .before .before .before .take-by-parity .kept .1 .1 .1 .1 .1 .1 .1 .1 .1 .0))
 
 same-length-6 : tie.Need-same-length-6 Inv-loop μ-loop
 same-length-6 c = c .before .loop .inv .0 .of-work
@@ -98,6 +107,9 @@ take-lines-spec =
     sub-take-by-parity
     part-take-by-parity-start
     part-take-by-parity-end
+    sub-take-by-parity-2
+    part-take-by-parity-start-2
+    part-take-by-parity-end-2
     take-by-parity-requires
     enum-known-answer
     same-length
