@@ -55,6 +55,7 @@ exp-bound (seq r1 r2) v (reads_pair {v = u} {w} p q) =
     (sum_bound (records u) (records w) _ (nodes r1) (nodes r2) k l (k + l) (omega arith)
     (exp-bound r1 u p) (exp-bound r2 w q) (omega arith) (omega arith))
 exp-bound (star r) v p = star-weaker _ (nodes r) _ (star-bound (exp-bound r) p)
+exp-bound Rattle.posix.specs.Expressions.nothing v p = elim p [ ]
 
 -- a reading of a star has at most one record, and nodes a for each byte
 pub records-star : {a : Exp} {w : Val} → Reads (star a) w → records w ≤ 1 + nodes a * length (flat w)

@@ -39,6 +39,7 @@ before-transitive (before_later e b) (before_later f c) = before_later (e ∙ f)
 pub before-irreflexive : (p : List ℕ) → ¬ (Before p p)
 before-irreflexive (i ∷ p) (before_lower h) = omega arith
 before-irreflexive (i ∷ p) (before_later e b) = before-irreflexive p b
+before-irreflexive [] x' = elim x' [ ]
 
 -- no path stands before the root
 pub before_root : (p : List ℕ) → ¬ (Before p [])
