@@ -2,7 +2,6 @@
 -- Assumes nothing.
 use native.Mathlib.Omega.{arith}
 use mathlib.Core.Path.{sym, ◌∙◌}
-use borrow.Author.Tests.{not-false}
 use Rattle.rows.proofs.Growing.{row-there, no-run-long}
 use Rattle.rows.proofs.Joining.{grown-none, closed_run}
 use Rattle.rows.proofs.close_row.Goals as goal
@@ -20,4 +19,4 @@ pub set_run-requires : goal.set_run-requires
 set_run-requires c = record { inside = c.requires.inside; le_low = (omega arith, omega (arith, no-run-long c.args.work.now c.args.m c.args.d c.args.k (sym c.lowest-low.ensures.0 ∙ c.if-low-ne0.false), c.longest-h.ensures.0), omega (arith, c.longest-h.ensures.0, c.requires.shape.small)) }
 
 pub returns : goal.returns
-returns c = closed_run _ _ _ _ c.requires _ _ _ c.longest-h.ensures.0 (sym c.lowest-low.ensures.0 ∙ c.if-low-ne0.false) c.row_at-at.ensures c.lesser-end.ensures (c.all_set.ensures (not-false _ c.if-not-all_set.false-raw)) _ c.set_run.ensures
+returns c = closed_run _ _ _ _ c.requires _ _ _ c.longest-h.ensures.0 (sym c.lowest-low.ensures.0 ∙ c.if-low-ne0.false) c.row_at-at.ensures c.lesser-end.ensures (c.all_set.ensures c.if-not-all_set.false) _ c.set_run.ensures

@@ -1,7 +1,6 @@
 -- `rows::skip` meets its contract.
 -- Assumes nothing.
 use native.Mathlib.Omega.{arith}
-use borrow.Author.Tests.{not-false}
 use Rattle.rows.proofs.Joining.{skipped-none, skipped-full, skipped-run}
 use Rattle.rows.proofs.skip.Goals as goal
 
@@ -27,6 +26,6 @@ pub returns : goal.returns
 returns c =
     let long = c.longest-h.ensures.0 in
     let lower = c.lowest-low.ensures.0 in
-    let star = not-false _ c.if-not-star.false-raw in
+    let star = c.if-not-star.false in
     let small = c.requires.growing.shape.small in
     record { skipped = skipped-run _ _ _ _ _ _ _ _ long lower star c.if-low-eq0.false c.if-c-low.false c.if-h-c.false; upper_bound = omega arith }

@@ -1,7 +1,6 @@
 -- `rows::skip_reached` meets its contract.
 -- Assumes nothing.
 use native.Mathlib.Omega.{arith}
-use borrow.Author.Tests.{not-false}
 use Rattle.rows.proofs.Joining.{skipped-none, skipped-one}
 use Rattle.rows.proofs.skip_reached.Goals as goal
 
@@ -13,7 +12,7 @@ returns-then-d-c c = record { skipped = skipped-none _ _ _ _ _ _; upper_bound = 
 
 pub returns-then-tell : goal.returns-then-tell
 returns-then-tell c =
-    let star = not-false _ c.if-not-star.false-raw in
+    let star = c.if-not-star.false in
     record { skipped = skipped-one _ _ _ _ _ _ star (omega arith) _ c.tell.ensures c.if-tell.true; upper_bound = omega arith }
 
 pub returns : goal.returns
