@@ -109,6 +109,7 @@ fn first_breaking(tokens: &[u8], firsts: &[u8], seconds: &[u8], count: usize) ->
 }
 
 // The verdict on a token list by the names of so many pairs.
+#[tactic(auto, unfolding(crate::specs::Verdicts::judged))]
 fn judge(tokens: &[u8], pairs: usize, names: Names) -> Verdict
     ensures { result ≡ judged tokens.now pairs (pairs_from names.firsts names.seconds pairs 0) }
 {
