@@ -122,7 +122,7 @@ fn walk_letter(
 }
 
 // An Or's part: Left where the first child spells it, otherwise Right.
-#[cycle(walk_walk_iterations_walk_or_walk_seq_walk_star)]
+#[cycle(walking)]
 fn walk_or(
     table: &[u8],
     k: usize,
@@ -150,7 +150,7 @@ fn walk_or(
 }
 
 // A Seq's part: the longest first part, then the rest.
-#[cycle(walk_walk_iterations_walk_or_walk_seq_walk_star)]
+#[cycle(walking)]
 fn walk_seq(
     table: &[u8],
     k: usize,
@@ -186,7 +186,7 @@ fn walk_seq(
 }
 
 // A Star's part: the count, then the iterations.
-#[cycle(walk_walk_iterations_walk_or_walk_seq_walk_star)]
+#[cycle(walking)]
 fn walk_star(
     table: &[u8],
     k: usize,
@@ -208,7 +208,7 @@ fn walk_star(
 }
 
 // A Star's iterations, each the longest first part of what is left.
-#[cycle(walk_walk_iterations_walk_or_walk_seq_walk_star)]
+#[cycle(walking)]
 fn walk_iterations(
     table: &[u8],
     k: usize,
@@ -239,7 +239,7 @@ fn walk_iterations(
 }
 
 // Stores, or only counts, the records of a part's POSIX reading, and returns the position behind them.
-#[cycle(walk_walk_iterations_walk_or_walk_seq_walk_star)]
+#[cycle(walking)]
 fn walk(
     table: &[u8],
     k: usize,
