@@ -1,5 +1,7 @@
 // The lines of an input that comes in blocks: where one ends, the bytes kept of one that has not ended yet, and their numbers.
 
+#![tactic(auto)]
+
 ghost use Rattle.std.specs.Prelude.{suc, ◌+◌, ◌≤◌, ◌<◌, min, ◌≡◌, length};
 ghost use Rattle.lines.specs.Lines.{lines_of};
 ghost use Rattle.lines.specs.Ends.{NextEnd, Kept};
