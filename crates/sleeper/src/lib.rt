@@ -1,12 +1,9 @@
-// Sleeps for 10 milliseconds, or for less where a signal ends the sleep.
-pub fn pause() {
-    let asked = libc::types::timespec {
-        tv_sec: 0,
-        tv_nsec: 10000000,
-    };
-    let mut left = libc::types::timespec {
-        tv_sec: 0,
-        tv_nsec: 0,
-    };
-    libc::nanosleep(&asked, &mut left);
+#![tactic(auto)]
+
+use std::thread;
+use std::time::{Clock, Duration};
+
+// Sleeps for 10 milliseconds.
+pub fn pause(clock: &impl Clock) {
+    thread::sleep(clock, Duration::from_millis(10));
 }
