@@ -1,0 +1,8 @@
+-- `edges::mark_in_word` meets its contract, by the law of the run of bits. Assumes nothing.
+use Rattle.edges.proofs.Marks.{run-marked}
+use borrow.Author.Rules.{rules}
+use Rattle.edges.proofs.mark_in_word.Goals as goal
+
+pub returns : goal.returns
+returns c =
+    run-marked c.args.words.now c.args.low c.args.high c.requires.words_len c.requires.low_lt_high c.requires.high_bound c.requires.high_bound_2

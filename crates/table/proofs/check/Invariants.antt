@@ -1,0 +1,14 @@
+-- `table::check` meets its contract. The loop's invariant is Scan's: the records below k have no fault, and the marks are theirs; the measure is the
+-- number of records left. Assumes nothing.
+use Prim.Native.Nat.{◌-◌}
+use native.Mathlib.Omega.{arith}
+use mathlib.Core.Logic.{⊎_elim}
+use borrow.Author.Tests.{ltb-true, ltb-false}
+use Rattle.table.proofs.Scan.{Scanning, none-refused, over-refused, part-refused, scan-start, scan-end, Tested, scan-own, own-refused, named-refused, scan-next}
+use Rattle.table.proofs.check.Given as goal
+
+abbrev pub invariant-loop-k : goal.invariant-loop-k
+invariant-loop-k l = Scanning l.table l.k l.marks
+
+abbrev pub decreases-loop-k : goal.decreases-loop-k
+decreases-loop-k l = l.m - l.k
