@@ -14,7 +14,7 @@ use Rattle.notation.specs.declared.Walk.{Walk}
 use Rattle.notation.specs.declared.Walked.{Walked}
 use Rattle.notation.specs.Trees.{Tree, alt, cat}
 use Rattle.notation.specs.Decision.{Held, none, some, joined, Frame, State, state, all_with, Stepped, on, stop, step, word_at, later}
-use Rattle.notation.specs.Decision.{whole, stuck, ended, and_then, run, outcome}
+use Rattle.notation.specs.Decision.{stuck, ended, and_then, run, outcome}
 use Rattle.notation.specs.Walks.{Arrays, outer_parts, LastPart, Shows, Took, Fit, Blank, WalkedTo}
 use Rattle.notation.proofs.Words.{later-inside, from_place}
 use Rattle.notation.proofs.Complete.{run-skip}

@@ -175,18 +175,18 @@ letter-spells (letter_range p q h e) =
 digit-test : (x : ℕ) → x ≤ 9 → is_digit (digit x) ≡ true
 digit-test x h = rw (le-leb 48 (48 + x) (omega arith), le-leb (48 + x) 57 (omega arith))
 
-tag_word :
+tag-word :
     (x y z n : ℕ) (s : List ℕ) → x ≤ 9 → y ≤ 9 → z ≤ 9 → n ≡ 100 * x + 10 * y + z → 1 ≤ n → n ≤ 255
     → word_at hash (digit x ∷ digit y ∷ digit z ∷ s) ≡ Tag n
 unfolding word_at
-tag_word x y z n s a b c e f g =
+tag-word x y z n s a b c e f g =
     let t = digit x ∷ digit y ∷ digit z ∷ s in
     let k : numeral t ≡ n = omega arith in
     rw (digit-test x a, digit-test y b, digit-test z c, k, lt-ltb 2 (length t) (omega arith), le-leb 1 n f, le-leb n 255 g)
 
 pub tag-spells : {z : List ℕ} {n : ℕ} → TagText z n → Spells z (Tag n)
 tag-spells (tag-digits x y z n a b c e f g h) =
-    record { head = hash; tail = digit x ∷ digit y ∷ digit z ∷ []; made = e; long = refl; at_head = λ rest. tag_word x y z n rest a b c f g h }
+    record { head = hash; tail = digit x ∷ digit y ∷ digit z ∷ []; made = e; long = refl; at_head = λ rest. tag-word x y z n rest a b c f g h }
 
 -- a text from a place on, as the code takes it
 pub from_place : (at : ℕ) (s : List ℕ) → take (length s - at) (drop at s) ≡ drop at s

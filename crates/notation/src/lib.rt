@@ -1,5 +1,7 @@
 // Rules written as text (document 02, request 3): a text of the notation is turned into a table.
 
+#![tactic(auto)]
+
 ghost use Rattle.std.specs.Prelude.{ℕ, suc, ◌+◌, ◌-◌, ◌%◌, ◌≤◌, ◌<◌, ◌≡◌, true, List, ◌∷◌, length, get_or, drop};
 ghost use Rattle.table.specs.Records.{record_bytes};
 ghost use Rattle.table.specs.Answers.{says};
@@ -13,7 +15,7 @@ ghost use Rattle.notation.specs.Walks.{Arrays, outer_parts, LastPart, Shows, Too
 use table::{Answer, Refusal};
 
 // A word of the notation. A Letter has its bounds, and how many bytes it takes beyond the first.
-#[derive(Drop)]
+#[derive(Clone, Copy)]
 pub enum Word {
     Letter(u8, u8, usize),
     Open,
@@ -27,7 +29,7 @@ pub enum Word {
 // Where the walk over a text stands: the records written so far; the mark of the alternatives up to the last bar and of the row since, each the
 // record count behind that part, or 0 for none; the last item, 0 for none, 1 without a tag, 2 with one, whose root is the last record; and the
 // parentheses open. Off where a word could not stand where it did.
-#[derive(Drop)]
+#[derive(Clone, Copy)]
 pub struct Walk {
     pub on: bool,
     pub count: usize,

@@ -6,4 +6,3 @@ pub mod Hold
 mod Gathering
 mod Breaking
 mod Walking
-mod Sizes

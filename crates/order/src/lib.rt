@@ -1,5 +1,7 @@
 // The order of tokens: pairs of names of which the first must stand before the second.
 
+#![tactic(auto)]
+
 ghost use Rattle.std.specs.Prelude.{◌≤◌, ◌≡◌, length};
 ghost use Rattle.marks.specs.Marks.{marked};
 ghost use Rattle.order.specs.Verdicts.{judged, ordered};
@@ -9,7 +11,7 @@ use table::Refusal;
 
 // A token with the second name must have, earlier in its list, a token with the first name.
 #[repr(C)]
-#[derive(Drop)]
+#[derive(Clone, Copy)]
 pub struct Pair {
     pub first: u8,
     pub second: u8,

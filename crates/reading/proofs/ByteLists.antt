@@ -1,5 +1,6 @@
 -- The encoding of a reading of at most 255 line bytes, by a record of a table that passes, is a byte sequence.
 -- Assumes nothing.
+use mathlib.Core.Path.{subst}
 use Prim.Native.Nat.{ℕ, ◌+◌, ◌≤◌, ◌<◌}
 use mathlib.Core.List.{List, ◌∷◌, ◌++◌}
 use native.Mathlib.Omega.{arith}
@@ -59,19 +60,19 @@ module _ (t : List ℕ) (passes : Passes t) where
   below-bytes : (k : ℕ) → k < count t → {r : Exp} {v : Val} → Reads r v → length (flat v) ≤ 255 → Node t k r → Bytes (encode_below t k v)
   below-bytes k l reads_void h b = bytes-nil
   below-bytes k l (reads_byte z) h b = bytes-nil
-  below-bytes k l (reads_left p) h (node_or x y) = part_bytes (a_at t k) (omega arith) p h (below-bytes (a_at t k) (omega arith) p h)
-  below-bytes k l (reads_right p) h (node_or x y) = part_bytes (b_at t k) (omega arith) p h (below-bytes (b_at t k) (omega arith) p h)
-  below-bytes k l (reads_pair {v = v} {w = w} p q) h (node_seq x y) =
+  below-bytes k l (reads_left p) h (node_or x y e f) = part_bytes (a_at t k) (omega arith) p h (λ z. below-bytes (a_at t k) (omega arith) p h (subst (Node t (a_at t k)) e z))
+  below-bytes k l (reads_right p) h (node_or x y e f) = part_bytes (b_at t k) (omega arith) p h (λ z. below-bytes (b_at t k) (omega arith) p h (subst (Node t (b_at t k)) f z))
+  below-bytes k l (reads_pair {v = v} {w = w} p q) h (node_seq x y e f) =
       let s : length (flat v) + length (flat w) ≤ 255 = rw (← length-append (flat v) (flat w)) h in
       bytes-append (encode t (a_at t k) v) (encode t (b_at t k) w)
-      (part_bytes (a_at t k) (omega arith) p (omega arith) (below-bytes (a_at t k) (omega arith) p (omega arith)))
-      (part_bytes (b_at t k) (omega arith) q (omega arith) (below-bytes (b_at t k) (omega arith) q (omega arith)))
+      (part_bytes (a_at t k) (omega arith) p (omega arith) (λ z. below-bytes (a_at t k) (omega arith) p (omega arith) (subst (Node t (a_at t k)) e z)))
+      (part_bytes (b_at t k) (omega arith) q (omega arith) (λ z. below-bytes (b_at t k) (omega arith) q (omega arith) (subst (Node t (b_at t k)) f z)))
   below-bytes k l reads_none h b = bytes-nil
-  below-bytes k l (reads_more {v = v} {w = w} p n q) h (node_star x) =
+  below-bytes k l (reads_more {v = v} {w = w} p n q) h (node_star x e) =
       let s : length (flat v) + length (flat w) ≤ 255 = rw (← length-append (flat v) (flat w)) h in
       bytes-append (encode t (a_at t k) v) (encode_below t k w)
-      (part_bytes (a_at t k) (omega arith) p (omega arith) (below-bytes (a_at t k) (omega arith) p (omega arith)))
-      (below-bytes k l q (omega arith) (node_star x))
+      (part_bytes (a_at t k) (omega arith) p (omega arith) (λ z. below-bytes (a_at t k) (omega arith) p (omega arith) (subst (Node t (a_at t k)) e z)))
+      (below-bytes k l q (omega arith) (node_star x e))
 
   pub encode-bytes : (k : ℕ) → k < count t → {v : Val} → Reads (exp_of t k) v → length (flat v) ≤ 255 → Bytes (encode t k v)
   encode-bytes k l p h = part_bytes k l p h (below-bytes k l p h)

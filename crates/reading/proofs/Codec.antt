@@ -79,6 +79,7 @@ decode-complete t k (seq r1 r2) (reads_pair {v = v} {w = w} rv rw') h rest =
 decode-complete t k (star r) {v} rv h rest =
     at_head t k v rest (λ x y over. pick (eqb x 5) (decode_items (λ o. decode t (a_at t k) r o) y over) unfit) h
     (rw (star-kind rv) (items-complete t k (decode t (a_at t k) r) (λ u ru g over. decode-complete t (a_at t k) r ru g over) rv h rest))
+decode-complete t k nothing {v = v} rv h rest = elim rv [ ]
 
 -- what the helpers of decode were given, from what they found
 pick-fits : (b : Bool) (x : Decoded) (v : Val) (rest : List ℕ) → pick b x unfit ≡ fits v rest → (b ≡ true) × (x ≡ fits v rest)

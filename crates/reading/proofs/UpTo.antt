@@ -25,16 +25,16 @@ module _ {t u : List ℕ} {n : ℕ} (s : SameRecords t u n) (p : Passes t) (m : 
   same-below : (j : ℕ) → j < n → {e : Exp} {v : Val} → Reads e v → Node t j e → encode_below u j v ≡ encode_below t j v
   same-below j l reads_void b = refl
   same-below j l (reads_byte h) b = refl
-  same-below j l (reads_left {v = v} r) (node_or x y) = rw (s.a j l) (same_from (a_at t j) (omega arith) v (same-below (a_at t j) (omega arith) r))
-  same-below j l (reads_right {v = v} r) (node_or x y) = rw (s.b j l) (same_from (b_at t j) (omega arith) v (same-below (b_at t j) (omega arith) r))
-  same-below j l (reads_pair {v = v} {w = w} r q) (node_seq x y) =
+  same-below j l (reads_left {v = v} r) (node_or x y e f) = rw (s.a j l) (same_from (a_at t j) (omega arith) v (λ z. same-below (a_at t j) (omega arith) r (subst (Node t (a_at t j)) e z)))
+  same-below j l (reads_right {v = v} r) (node_or x y e f) = rw (s.b j l) (same_from (b_at t j) (omega arith) v (λ z. same-below (b_at t j) (omega arith) r (subst (Node t (b_at t j)) f z)))
+  same-below j l (reads_pair {v = v} {w = w} r q) (node_seq x y e f) =
       rw (s.a j l, s.b j l)
-      (ap₂ ◌++◌ (same_from (a_at t j) (omega arith) v (same-below (a_at t j) (omega arith) r))
-      (same_from (b_at t j) (omega arith) w (same-below (b_at t j) (omega arith) q)))
+      (ap₂ ◌++◌ (same_from (a_at t j) (omega arith) v (λ z. same-below (a_at t j) (omega arith) r (subst (Node t (a_at t j)) e z)))
+      (same_from (b_at t j) (omega arith) w (λ z. same-below (b_at t j) (omega arith) q (subst (Node t (b_at t j)) f z))))
   same-below j l reads_none b = refl
-  same-below j l (reads_more {v = v} r h q) (node_star x) =
+  same-below j l (reads_more {v = v} r h q) (node_star x e) =
       rw (s.a j l)
-      (ap₂ ◌++◌ (same_from (a_at t j) (omega arith) v (same-below (a_at t j) (omega arith) r)) (same-below j l q (node_star x)))
+      (ap₂ ◌++◌ (same_from (a_at t j) (omega arith) v (λ z. same-below (a_at t j) (omega arith) r (subst (Node t (a_at t j)) e z))) (same-below j l q (node_star x e)))
 
 module _ (t : List ℕ) (k : ℕ) (p : Passes t) (l : k < count t) where
   pub up-to-encode : {v : Val} → Reads (exp_of t k) v → encode (up_to t k) k v ≡ encode t k v

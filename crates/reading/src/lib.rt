@@ -26,13 +26,13 @@ pub const BOTH: u8 = 4;
 pub const STARS: u8 = 5;
 
 // A place in a reading: the number of the byte at which a record starts.
-#[derive(Drop)]
+#[derive(Clone, Copy)]
 pub struct Place {
     pub at: usize,
 }
 
 // A part of a reading: where it ends and how many bytes it spells.
-#[derive(Drop)]
+#[derive(Clone, Copy)]
 pub struct Span {
     pub next: Place,
     pub size: usize,
@@ -207,7 +207,7 @@ fn look(table: &[u8], k: usize, reading: &[u8], place: Place) -> Shape
 
 // The part that starts at a place, by record k: an element, whose iterations are elements again of a lower record. The length that is written for it
 // is the one that it spells.
-#[cycle(fit_element_fit_iterations_part_length)]
+#[cycle(fitting)]
 fn fit_element(table: &[u8], k: usize, reading: &[u8], place: Place) -> Fit
     requires passes { Passes table.now }
     requires inside { k < count table.now }
@@ -228,7 +228,7 @@ fn fit_element(table: &[u8], k: usize, reading: &[u8], place: Place) -> Fit
 
 // The part that starts at a place, by record k, with the length that it spells, the sum over its children: each of them is fitted, which holds the
 // length that is written for it against its own sum.
-#[cycle(fit_element_fit_iterations_part_length)]
+#[cycle(fitting)]
 pub fn part_length(table: &[u8], k: usize, reading: &[u8], place: Place) -> Fit
     requires passes { Passes table.now }
     requires inside { k < count table.now }
@@ -262,7 +262,7 @@ pub fn part_length(table: &[u8], k: usize, reading: &[u8], place: Place) -> Fit
 }
 
 // So many iterations that start at a place, each an element of record c that spells at least one byte.
-#[cycle(fit_element_fit_iterations_part_length)]
+#[cycle(fitting)]
 fn fit_iterations(table: &[u8], c: usize, times: usize, reading: &[u8], place: Place) -> Fit
     requires passes { Passes table.now }
     requires inside { c < count table.now }

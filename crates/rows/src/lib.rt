@@ -1,6 +1,8 @@
 // The rows of Read's work area: for each record and each start in the line, the lengths of the parts that the record spells there. A row is a
 // run of lengths where it can be, and is written out byte by byte otherwise. Nothing here knows the table or the line.
 
+#![tactic(auto)]
+
 ghost use Rattle.std.specs.Prelude.{ℕ, ◌+◌, ◌-◌, ◌*◌, ◌≤◌, ◌<◌, ◌≡◌, ◌⊎◌, true, false, cond, ◌||◌, leb, length};
 ghost use Rattle.rows.specs.Layout.{area_size, head_at, row_at, is_set, longest_at, lowest_at, has, tells};
 ghost use Rattle.rows.specs.Rows.{Written, joined, NextSet, Inside, Shaped, Growing, Grown, Explicit, Marked, mark_set, in_run, behind, behind_non_empty, Earlier, cuts_joined, NextLength, Cutting, Skipped, AllSet, Tail, open_has, Open, WrittenOut, LowBehind, JoinedRun, Reached};

@@ -18,9 +18,9 @@ pub data Node (t : List ℕ) (k : ℕ) : Exp → Type 0 where
   node_nothing : Node t k nothing
   node_empty : Node t k empty
   node_letter : Node t k (letter (byte_set_at t k))
-  node_or : a_at t k < k → b_at t k < k → Node t k (or (exp_of t (a_at t k)) (exp_of t (b_at t k)))
-  node_seq : a_at t k < k → b_at t k < k → Node t k (seq (exp_of t (a_at t k)) (exp_of t (b_at t k)))
-  node_star : a_at t k < k → Node t k (star (exp_of t (a_at t k)))
+  node_or : {r1 r2 : Exp} → a_at t k < k → b_at t k < k → exp_of t (a_at t k) ≡ r1 → exp_of t (b_at t k) ≡ r2 → Node t k (or r1 r2)
+  node_seq : {r1 r2 : Exp} → a_at t k < k → b_at t k < k → exp_of t (a_at t k) ≡ r1 → exp_of t (b_at t k) ≡ r2 → Node t k (seq r1 r2)
+  node_star : {r : Exp} → a_at t k < k → exp_of t (a_at t k) ≡ r → Node t k (star r)
 
 pub node : (t : List ℕ) → Passes t → (k : ℕ) → k < count t → Node t k (exp_of t k)
 node t p k l = go (kind_at t k) refl
@@ -32,13 +32,13 @@ node t p k l = go (kind_at t k) refl
     go (suc (suc (suc zero))) e =
         let x : a_at t k < k = a-below t p k l (inl e) in
         let y : b_at t k < k = b-below t p k l (inl e) in
-        rw (exp-or t k e x y) (node_or x y)
+        rw (exp-or t k e x y) (node_or x y refl refl)
     go (suc (suc (suc (suc zero)))) e =
         let x : a_at t k < k = a-below t p k l (inr e) in
         let y : b_at t k < k = b-below t p k l (inr e) in
-        rw (exp-seq t k e x y) (node_seq x y)
+        rw (exp-seq t k e x y) (node_seq x y refl refl)
     go (suc (suc (suc (suc (suc zero))))) e =
         let x : a_at t k < k = star-a-below t p k l e in
-        rw (exp-star t k e x) (node_star x)
+        rw (exp-star t k e x) (node_star x refl)
     go (suc (suc (suc (suc (suc (suc zero)))))) e = rw (exp-letter t k (letter_at t k refl (inr e))) node_letter
     go (suc (suc (suc (suc (suc (suc (suc n))))))) e = absurd (omega (arith, kind-small t p k l))

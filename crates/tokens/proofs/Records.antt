@@ -157,20 +157,20 @@ module _ (t : List ℕ) where
         → Numbered t (records_of (encode_below t k v ++ rest))
     numbered_below k l reads_void rest h b = h
     numbered_below k l (reads_byte g) rest h b = h
-    numbered_below k l (reads_left {v = v} p) rest h (node_or x y) =
-        numbered-part (a_at t k) (omega arith) v rest (numbered_below (a_at t k) (omega arith) p rest h)
-    numbered_below k l (reads_right {v = v} p) rest h (node_or x y) =
-        numbered-part (b_at t k) (omega arith) v rest (numbered_below (b_at t k) (omega arith) p rest h)
-    numbered_below k l (reads_pair {v = v} {w = w} p q) rest h (node_seq x y) =
+    numbered_below k l (reads_left {v = v} p) rest h (node_or x y e f) =
+        numbered-part (a_at t k) (omega arith) v rest (λ z. numbered_below (a_at t k) (omega arith) p rest h (subst (Node t (a_at t k)) e z))
+    numbered_below k l (reads_right {v = v} p) rest h (node_or x y e f) =
+        numbered-part (b_at t k) (omega arith) v rest (λ z. numbered_below (b_at t k) (omega arith) p rest h (subst (Node t (b_at t k)) f z))
+    numbered_below k l (reads_pair {v = v} {w = w} p q) rest h (node_seq x y e f) =
         subst (λ (bs : List ℕ). Numbered t (records_of bs)) (sym (append_assoc (encode t (a_at t k) v) (encode t (b_at t k) w) rest))
         (numbered-part (a_at t k) (omega arith) v (encode t (b_at t k) w ++ rest)
-        (numbered_below (a_at t k) (omega arith) p (encode t (b_at t k) w ++ rest)
-        (numbered-part (b_at t k) (omega arith) w rest (numbered_below (b_at t k) (omega arith) q rest h))))
+        (λ z. numbered_below (a_at t k) (omega arith) p (encode t (b_at t k) w ++ rest)
+        (numbered-part (b_at t k) (omega arith) w rest (λ z. numbered_below (b_at t k) (omega arith) q rest h (subst (Node t (b_at t k)) f z))) (subst (Node t (a_at t k)) e z)))
     numbered_below k l reads_none rest h b = h
-    numbered_below k l (reads_more {v = v} {w = w} p n q) rest h (node_star x) =
+    numbered_below k l (reads_more {v = v} {w = w} p n q) rest h (node_star x e) =
         subst (λ (bs : List ℕ). Numbered t (records_of bs)) (sym (append_assoc (encode t (a_at t k) v) (encode_below t k w) rest))
         (numbered-part (a_at t k) (omega arith) v (encode_below t k w ++ rest)
-        (numbered_below (a_at t k) (omega arith) p (encode_below t k w ++ rest) (numbered_below k l q rest h (node_star x))))
+        (λ z. numbered_below (a_at t k) (omega arith) p (encode_below t k w ++ rest) (numbered_below k l q rest h (node_star x e)) (subst (Node t (a_at t k)) e z)))
 
     pub numbered-fits : {k : ℕ} {bs : List ℕ} → k < count t → Fits t k bs → Numbered t (records_of bs)
     numbered-fits {k} l f =

@@ -3,7 +3,7 @@
 -- Assumes nothing.
 use Prim.Native.Nat.{ℕ, ◌+◌, ◌≤◌, ◌<◌}
 use native.Mathlib.Omega.{arith}
-use mathlib.Core.Path.{◌≡◌, refl, ap, ap₂}
+use mathlib.Core.Path.{◌≡◌, refl, ap, ap₂, subst}
 use mathlib.Core.List.{List, ◌++◌}
 use lib.ListN.{length}
 use Rattle.posix.specs.Expressions.{Exp}
@@ -25,22 +25,22 @@ module _ {t u : List ℕ} {n : ℕ} (s : SameRecords t u n) (p : Passes t) (m : 
   same-below : (j : ℕ) → j < n → {e : Exp} {v : Val} → Reads e v → (at : ℕ) → Node t j e → placed_below u j v at ≡ placed_below t j v at
   same-below j l reads_void at b = refl
   same-below j l (reads_byte h) at b = refl
-  same-below j l (reads_left {v = v} r) at (node_or x y) =
-      rw (s.a j l) (same_from (a_at t j) (omega arith) v at (same-below (a_at t j) (omega arith) r at))
-  same-below j l (reads_right {v = v} r) at (node_or x y) =
-      rw (s.b j l) (same_from (b_at t j) (omega arith) v at (same-below (b_at t j) (omega arith) r at))
-  same-below j l (reads_pair {v = v} {w = w} r q) at (node_seq x y) =
+  same-below j l (reads_left {v = v} r) at (node_or x y e f) =
+      rw (s.a j l) (same_from (a_at t j) (omega arith) v at (λ z. same-below (a_at t j) (omega arith) r at (subst (Node t (a_at t j)) e z)))
+  same-below j l (reads_right {v = v} r) at (node_or x y e f) =
+      rw (s.b j l) (same_from (b_at t j) (omega arith) v at (λ z. same-below (b_at t j) (omega arith) r at (subst (Node t (b_at t j)) f z)))
+  same-below j l (reads_pair {v = v} {w = w} r q) at (node_seq x y e f) =
       let next : ℕ = at + length (flat v) in
       rw (s.a j l, s.b j l)
       (ap₂ ◌++◌
-      (same_from (a_at t j) (omega arith) v at (same-below (a_at t j) (omega arith) r at))
-      (same_from (b_at t j) (omega arith) w next (same-below (b_at t j) (omega arith) q next)))
+      (same_from (a_at t j) (omega arith) v at (λ z. same-below (a_at t j) (omega arith) r at (subst (Node t (a_at t j)) e z)))
+      (same_from (b_at t j) (omega arith) w next (λ z. same-below (b_at t j) (omega arith) q next (subst (Node t (b_at t j)) f z))))
   same-below j l reads_none at b = refl
-  same-below j l (reads_more {v = v} r h q) at (node_star x) =
+  same-below j l (reads_more {v = v} r h q) at (node_star x e) =
       rw (s.a j l)
       (ap₂ ◌++◌
-      (same_from (a_at t j) (omega arith) v at (same-below (a_at t j) (omega arith) r at))
-      (same-below j l q (at + length (flat v)) (node_star x)))
+      (same_from (a_at t j) (omega arith) v at (λ z. same-below (a_at t j) (omega arith) r at (subst (Node t (a_at t j)) e z)))
+      (same-below j l q (at + length (flat v)) (node_star x e)))
 
 pub up-to-tokens :
     (t : List ℕ) (k : ℕ) → Passes t → k < count t → (v : Val) → Reads (exp_of t k) v → (at : ℕ) → tokens_from (up_to t k) k v at ≡ tokens_from t k v at
