@@ -138,14 +138,13 @@ timeout 60 "$program" >&- 2>err < <(printf 'abc\nabc\n')
 status=$?
 same "a closed standard output"
 
-# the signal SIGPIPE ends the program, with status 141; where it is ignored, the write fails
+# a program that Rattle builds ignores the signal SIGPIPE from its start on, so the write fails, whatever the signal did before
 head -n 100000 < <(yes abc 2>&1) >unread
-complains ''
+complains 'tracecut: writing failed: Broken pipe\n'
 timeout 60 env --default-signal=PIPE "$program" <unread 2>err | true
-status=$((PIPESTATUS[0] - 141))
+status=${PIPESTATUS[0]}
 same "a standard output that nobody reads"
 
-complains 'tracecut: writing failed: Broken pipe\n'
 timeout 60 env --ignore-signal=PIPE "$program" <unread 2>err | true
 status=${PIPESTATUS[0]}
 same "a standard output that nobody reads, with SIGPIPE ignored"

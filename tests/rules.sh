@@ -185,10 +185,11 @@ timeout 60 "$program" >got 2>&- < <(printf '\n')
 status=$?
 same "a refused text and a closed standard error"
 : >got
-{ sleep 0.3; printf 'ab\n'; } | timeout 60 env --default-signal=PIPE "$program" 2>err | true
-status=$((PIPESTATUS[1] - 141))
-same "a standard output that nobody reads"
+# a program that Rattle builds ignores the signal SIGPIPE from its start on, so the write fails, whatever the signal did before
 complains 'tracerules: writing failed: Broken pipe\n'
+{ sleep 0.3; printf 'ab\n'; } | timeout 60 env --default-signal=PIPE "$program" 2>err | true
+status=${PIPESTATUS[1]}
+same "a standard output that nobody reads"
 { sleep 0.3; printf 'ab\n'; } | timeout 60 env --ignore-signal=PIPE "$program" 2>err | true
 status=${PIPESTATUS[1]}
 same "a standard output that nobody reads, with SIGPIPE ignored"

@@ -1,11 +1,15 @@
 // Reads lines from standard input and prints the tokens of each by the rule table in the file rules.tab. What is printed is made by `report`
 // and `stream`; here it is only read and written.
 
+#![tactic(auto)]
+
 ghost use Rattle.std.specs.Prelude.{◌+◌, ◌≤◌, ◌<◌, ◌≡◌, length};
 ghost use Rattle.stream.specs.Buffers.{Buffers};
 
 use descriptors::Filled;
-use libc::{STDERR_FILENO, STDIN_FILENO, STDOUT_FILENO};
+use std::fs;
+use std::fs::File;
+use std::io::{Error, ErrorKind};
 
 // What stands between two blocks of input: the bytes kept of the line that has not ended yet, the lines ended so far, and whether writing
 // failed.
@@ -16,56 +20,72 @@ struct State {
     failed: bool,
 }
 
+// What a call is lent in which it says why it failed: nothing failed yet.
+fn no_failure() -> Error {
+    Error::from_raw_os_error(0)
+}
+
 // Prints bytes, or says that writing failed.
-fn print(bytes: &[u8]) -> bool {
-    if descriptors::write_whole(STDOUT_FILENO, bytes) {
+fn print(rt: &HostRuntime, bytes: &[u8]) -> bool {
+    let mut why = no_failure();
+    if descriptors::write_whole(rt, &mut rt.stdout(), bytes, &mut why) {
         return true;
     }
-    os::fail(b"tracecut: writing failed");
+    descriptors::fail(&mut rt.stderr(), b"tracecut: writing failed", &why);
     false
 }
 
 // Reads rules.tab until it ends or the buffer is full, and returns the number of bytes: 0 where a read fails, whatever came before.
-fn read_file(fd: i32, buffer: &mut [u8]) -> usize
+fn read_file(rt: &HostRuntime, file: &mut File, buffer: &mut [u8]) -> usize
     ensures { result ≤ length buffer.new }
 {
-    match descriptors::read_whole(fd, buffer) {
+    let mut why = no_failure();
+    match descriptors::read_whole(rt, file, buffer, &mut why) {
         Filled::Bytes(n) => n,
         Filled::Failed => {
-            os::fail(b"tracecut: reading rules.tab failed");
+            descriptors::fail(
+                &mut rt.stderr(),
+                b"tracecut: reading rules.tab failed",
+                &why,
+            );
             0
         }
     }
 }
 
-// Opens rules.tab, and answers a descriptor, or -1. Where it is not just missing, standard error says why.
-fn open_table() -> i32 {
-    let fd = os::open_read(b"rules.tab");
-    if 0 <= fd {
-        return fd;
+// Opens rules.tab. Where it cannot be opened and is not just missing, standard error says why.
+fn open_table(rt: &HostRuntime) -> Option<File> {
+    match fs::open(rt, "rules.tab") {
+        Ok(file) => Some(file),
+        Err(why) => {
+            if why.kind() != ErrorKind::NotFound {
+                descriptors::fail(
+                    &mut rt.stderr(),
+                    b"tracecut: opening rules.tab failed",
+                    &why,
+                );
+            }
+            None
+        }
     }
-    if os::errno() == libc::ENOENT {
-        return fd;
-    }
-    os::fail(b"tracecut: opening rules.tab failed");
-    fd
 }
 
 // Reads rules.tab and returns its size, at most the buffer's. One that is missing or cannot be opened counts as 0 bytes.
-fn read_table(table: &mut [u8]) -> usize
+fn read_table(rt: &HostRuntime, table: &mut [u8]) -> usize
     ensures { result ≤ length table.new }
 {
-    let fd = open_table();
-    if fd < 0 {
-        return 0;
+    match open_table(rt) {
+        Some(file) => {
+            let mut file = file;
+            read_file(rt, &mut file, table)
+        }
+        None => 0,
     }
-    let size = read_file(fd, table);
-    libc::close(fd);
-    size
 }
 
 // Prints the reports of the lines that end in a block of input.
 fn print_block(
+    rt: &HostRuntime,
     table: &[u8],
     block: &[u8],
     before: State,
@@ -99,7 +119,7 @@ fn print_block(
             out,
         );
         let written = step.written;
-        if !print(&out[..written]) {
+        if !print(rt, &out[..written]) {
             return State {
                 kept: 0,
                 ended: 0,
@@ -117,18 +137,18 @@ fn print_block(
     }
 }
 
-// Says on standard error that reading failed, and in which line.
-fn say_failed(ended: u64, out: &mut [u8])
+// Says on standard error that reading failed, in which line and why.
+fn say_failed(rt: &HostRuntime, ended: u64, out: &mut [u8], why: &Error)
     requires ended { ended < 18446744073709551615 }
     requires out { 64 ≤ length out.old }
 {
     let number = lines::line_number(ended);
     let size = report::report_failure(number, out);
-    os::fail(&out[..size]);
+    descriptors::fail(&mut rt.stderr(), &out[..size], why);
 }
 
 // Reads standard input and prints the reports of its lines. A proved loop has to end, so this one stops after some 2^64 bytes.
-fn run(table: &[u8], out: &mut [u8])
+fn run(rt: &HostRuntime, table: &[u8], out: &mut [u8])
     requires { length out.old ≡ 65536 }
 {
     let mut block = [0u8; 65536];
@@ -143,10 +163,12 @@ fn run(table: &[u8], out: &mut [u8])
         failed: false,
     };
     let mut left: u64 = 18446744073709551614;
+    let mut input = rt.stdin();
+    let mut why = no_failure();
     while 65536 < left {
-        let got = descriptors::read_some(STDIN_FILENO, &mut block);
+        let got = descriptors::read_some(rt, &mut input, &mut block, &mut why);
         if descriptors::is_failure(got) {
-            say_failed(state.ended, out);
+            say_failed(rt, state.ended, out, &why);
             return;
         }
         let n = io::count(got, &block);
@@ -161,10 +183,11 @@ fn run(table: &[u8], out: &mut [u8])
                 &mut tokens,
                 out,
             );
-            print(&out[..size]);
+            print(rt, &out[..size]);
             return;
         }
         state = print_block(
+            rt,
             table,
             &block[..n],
             state,
@@ -179,17 +202,17 @@ fn run(table: &[u8], out: &mut [u8])
         }
         left -= n as u64;
     }
-    io::write_all(STDERR_FILENO, b"tracecut: the input is too long\n");
+    let _ = rt.stderr().write_all(b"tracecut: the input is too long\n");
 }
 
-fn main() {
+fn main(rt: HostRuntime) {
     let mut table = [0u8; 1025];
     let mut out = [0u8; 65536];
-    let size = read_table(&mut table);
+    let size = read_table(&rt, &mut table);
     let refused = report::report_table(&table[..size], &mut out);
     if 0 < refused {
-        print(&out[..refused]);
+        print(&rt, &out[..refused]);
         return;
     }
-    run(&table[..size], &mut out);
+    run(&rt, &table[..size], &mut out);
 }

@@ -1,5 +1,7 @@
 // Reads a text of the notation from standard input and writes its rule table to standard output, or says on standard error why there is none.
 
+#![tactic(auto)]
+
 ghost use Rattle.std.specs.Prelude.{◌+◌, ◌≤◌, ◌≡◌, length};
 ghost use Rattle.printing.specs.Writes.{Wrote};
 ghost use Rattle.tracerules.specs.Text.{text_of, input_length};
@@ -7,8 +9,8 @@ ghost use Rattle.tracerules.specs.Messages.{fault_of, reason, refused_line};
 ghost use Rattle.tracerules.specs.Outputs.{table_length, output, shown, Inside};
 
 use descriptors::Filled;
-use libc::{STDERR_FILENO, STDIN_FILENO, STDOUT_FILENO};
 use printing::{put_byte, put_decimal, put_text};
+use std::io::Error;
 use table::Answer;
 
 // What is written for an input: so many bytes of the buffer, a table's to standard output or a refusal's line to standard error.
@@ -88,35 +90,47 @@ fn respond(input: &[u8], out: &mut [u8]) -> Reply
     }
 }
 
+// What a call is lent in which it says why it failed: nothing failed yet.
+fn no_failure() -> Error {
+    Error::from_raw_os_error(0)
+}
+
 // Writes a table, or says that writing failed.
-fn print(table: &[u8]) {
-    if !descriptors::write_whole(STDOUT_FILENO, table) {
-        os::fail(b"tracerules: writing failed");
+fn print(rt: &HostRuntime, table: &[u8]) {
+    let mut why = no_failure();
+    if !descriptors::write_whole(rt, &mut rt.stdout(), table, &mut why) {
+        descriptors::fail(&mut rt.stderr(), b"tracerules: writing failed", &why);
     }
 }
 
 // Writes what is to be written for an input.
-fn answer(input: &[u8]) {
+fn answer(rt: &HostRuntime, input: &[u8]) {
     let mut out = [0u8; 1020];
     match respond(input, &mut out) {
-        Reply::Table(n) => print(&out[..n]),
+        Reply::Table(n) => print(rt, &out[..n]),
         Reply::Complaint(n) => {
-            descriptors::write_whole(STDERR_FILENO, &out[..n]);
+            let mut why = no_failure();
+            descriptors::write_whole(rt, &mut rt.stderr(), &out[..n], &mut why);
         }
     }
 }
 
 // Reads standard input, until it ends or the buffer is full, and answers it.
-fn run(input: &mut [u8])
+fn run(rt: &HostRuntime, input: &mut [u8])
     requires { length input.old ≡ input_length }
 {
-    match descriptors::read_whole(STDIN_FILENO, input) {
-        Filled::Bytes(n) => answer(&input[..n]),
-        Filled::Failed => os::fail(b"tracerules: reading standard input failed"),
+    let mut why = no_failure();
+    match descriptors::read_whole(rt, &mut rt.stdin(), input, &mut why) {
+        Filled::Bytes(n) => answer(rt, &input[..n]),
+        Filled::Failed => descriptors::fail(
+            &mut rt.stderr(),
+            b"tracerules: reading standard input failed",
+            &why,
+        ),
     }
 }
 
-fn main() {
+fn main(rt: HostRuntime) {
     let mut input = [0u8; 4098];
-    run(&mut input);
+    run(&rt, &mut input);
 }
