@@ -1,6 +1,8 @@
 // Read's work area: for every record and every part of the line, whether the record spells the part. It is filled from the line's last byte
 // towards its first.
 
+#![tactic(auto)]
+
 ghost use Rattle.std.specs.Prelude.{ℕ, ◌+◌, ◌-◌, ◌≤◌, ◌<◌, ◌≡◌, true, false, cond, [], leb, length, get_or, drop};
 ghost use Rattle.std.specs.Int.Bits.{bit_and};
 ghost use Rattle.posix.specs.Spells.{spells};

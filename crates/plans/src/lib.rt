@@ -1,6 +1,8 @@
 // What is found of a table before Read's work area is filled: which records follow from the line's bytes alone, which record a part of
 // another may matter to, and which ones to look at first at a byte.
 
+#![tactic(auto)]
+
 ghost use Rattle.std.specs.Prelude.{ℕ, ◌+◌, ◌*◌, ◌≤◌, ◌<◌, ◌≡◌, true, [], length, get_or};
 ghost use Rattle.posix.specs.Spells.{spells};
 ghost use Rattle.table.specs.Records.{count, kind_at};

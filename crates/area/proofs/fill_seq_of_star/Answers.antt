@@ -1,0 +1,27 @@
+-- `area::fill_seq_of_star` meets its contract, by the law of a Seq of a Star.
+-- Assumes nothing.
+use native.Mathlib.Omega.{arith}
+use mathlib.Core.Logic.{inr}
+use Rattle.area.proofs.Records.{a-child, seq-first, of-star-cutting, of-star-made}
+use borrow.Author.Rules.{rules}
+use Rattle.area.proofs.fill_seq_of_star.Goals as goal
+
+pub base_of-base-requires : goal.base_of-base-requires
+base_of-base-requires c =
+    let e = c.a_at.ensures in
+    record { passes = c.requires.ready.known.sized.passes; k_bound = omega (arith, c.requires.ready.number, a-child _ _ _ _ c.requires.ready (inr c.requires.k_value), e); k_value = rw e c.requires.k_value_2 }
+
+pub add-requires : goal.add-requires
+add-requires c =
+    let x = seq-first _ _ _ _ c.requires.ready c.requires.k_value c.b_at.ensures in
+    record { growing = x.0; earlier = x.1 }
+
+pub add_cuts-requires : goal.add_cuts-requires
+add_cuts-requires c =
+    of-star-cutting _ _ _ _ c.requires.ready c.requires.k_value c.a_at.ensures c.b_at.ensures _ c.add.ensures
+    (rw c.a_at.ensures at c.base_of-base.ensures)
+
+pub returns : goal.returns
+returns c =
+    of-star-made _ _ _ _ c.requires.ready c.requires.k_value c.a_at.ensures c.b_at.ensures _ c.add.ensures
+    (rw c.a_at.ensures at c.base_of-base.ensures) _ c.add_cuts.ensures

@@ -1,0 +1,13 @@
+-- `area::seed` meets its contract: the test as a mask.
+-- Assumes nothing.
+use native.Mathlib.Omega.{arith}
+use Rattle.plans.specs.Plans.{in_either}
+use Rattle.area.proofs.Seeds.{seed-right, one_byte}
+use borrow.Author.Rules.{rules}
+use Rattle.area.proofs.seed.Goals as goal
+
+pub overflow_mul-result : goal.overflow_mul-result
+overflow_mul-result c = omega (arith, one_byte (in_either c.args.low c.args.high c.args.low2 c.args.high2 c.args.c) c.in_either.ensures)
+
+pub returns : goal.returns
+returns c = seed-right (in_either c.args.low c.args.high c.args.low2 c.args.high2 c.args.c) _ c.in_either.ensures (omega (arith, c.requires))
