@@ -1,0 +1,11 @@
+-- `matcher::walk_empty` meets its contract: an Empty's part reads as Void.
+-- Assumes nothing.
+use Rattle.matcher.proofs.Walking.{bytes-here, empty-room, empty_walked}
+use borrow.Author.Rules.{rules}
+use Rattle.matcher.proofs.walk_empty.Goals as goal
+
+pub put-requires : goal.put-requires
+put-requires c = record { room = empty-room c.requires.given c.requires.k_value; bytes = bytes-here c.requires.given.here }
+
+pub returns : goal.returns
+returns c = empty_walked c.requires.given c.requires.k_value c.put.ensures
