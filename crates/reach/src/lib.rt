@@ -2,6 +2,8 @@
 // start record and the whole line down to single records: a mark (j, d) says that record j is to be looked at from the last d bytes of the line
 // on. Each record's marks stand in 256 bits.
 
+#![tactic(auto)]
+
 ghost use Rattle.std.specs.Prelude.{◌+◌, ◌*◌, ◌≤◌, ◌<◌, ◌≡◌, length, replicate, true};
 ghost use Rattle.posix.specs.Extends.{extends};
 ghost use Rattle.table.specs.Records.{count, kind_at, is_letter};
