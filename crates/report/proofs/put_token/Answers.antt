@@ -1,0 +1,35 @@
+-- `report::put_token` meets its contract: three numbers of at most 3 digits, each with a byte after it. Assumes nothing.
+use Prim.Native.Nat.{◌+◌, ◌≤◌}
+use native.Mathlib.Omega.{arith}
+use lib.ListN.{length}
+use Rattle.printing.proofs.Writes.{wrote-length, wrote_then, wrote-5, wrote-room}
+use Rattle.printing.proofs.Digits.{length-decimal-byte}
+use Rattle.report.proofs.put_token.Goals as goal
+
+pub put_decimal-tag_end-requires : goal.put_decimal-tag_end-requires
+put_decimal-tag_end-requires c = omega (arith, c.requires, length-decimal-byte c.args.tag (omega (arith, c.ranges.tag)))
+
+pub put_byte-offset_at-requires : goal.put_byte-offset_at-requires
+put_byte-offset_at-requires c = omega (arith, (wrote-room c.put_decimal-tag_end.ensures 3 9 (length-decimal-byte c.args.tag (omega (arith, c.ranges.tag))) c.requires))
+
+pub put_decimal-offset_end-requires : goal.put_decimal-offset_end-requires
+put_decimal-offset_end-requires c = omega (arith, (wrote-room c.put_byte-offset_at.ensures 1 8 (omega arith) ((wrote-room c.put_decimal-tag_end.ensures 3 9 (length-decimal-byte c.args.tag (omega (arith, c.ranges.tag))) c.requires))), length-decimal-byte c.args.offset (omega (arith, c.ranges.offset)))
+
+pub put_byte-size_at-requires : goal.put_byte-size_at-requires
+put_byte-size_at-requires c = omega (arith, (
+    wrote-room c.put_decimal-offset_end.ensures 3 5 (length-decimal-byte c.args.offset (omega (arith, c.ranges.offset))) ((wrote-room c.put_byte-offset_at.ensures 1 8 (omega arith) ((wrote-room c.put_decimal-tag_end.ensures 3 9 (length-decimal-byte c.args.tag (omega (arith, c.ranges.tag))) c.requires))))))
+
+pub put_decimal-size_end-requires : goal.put_decimal-size_end-requires
+put_decimal-size_end-requires c = omega (arith, (wrote-room c.put_byte-size_at.ensures 1 4 (omega arith) ((
+    wrote-room c.put_decimal-offset_end.ensures 3 5 (length-decimal-byte c.args.offset (omega (arith, c.ranges.offset))) ((wrote-room c.put_byte-offset_at.ensures 1 8 (omega arith) ((wrote-room c.put_decimal-tag_end.ensures 3 9 (length-decimal-byte c.args.tag (omega (arith, c.ranges.tag))) c.requires))))))), length-decimal-byte c.args.size (omega (arith, c.ranges.size)))
+
+pub put_byte-requires : goal.put_byte-requires
+put_byte-requires c = omega (arith, (
+    wrote-room c.put_decimal-size_end.ensures 3 1 (length-decimal-byte c.args.size (omega (arith, c.ranges.size))) ((wrote-room c.put_byte-size_at.ensures 1 4 (omega arith) ((
+    wrote-room c.put_decimal-offset_end.ensures 3 5 (length-decimal-byte c.args.offset (omega (arith, c.ranges.offset))) ((wrote-room c.put_byte-offset_at.ensures 1 8 (omega arith) ((wrote-room c.put_decimal-tag_end.ensures 3 9 (length-decimal-byte c.args.tag (omega (arith, c.ranges.tag))) c.requires))))))))))
+
+pub shape_of-out : goal.shape_of-out
+shape_of-out c = wrote-length (wrote_then c.put_decimal-tag_end.ensures (wrote-5 c.put_byte-offset_at.ensures c.put_decimal-offset_end.ensures c.put_byte-size_at.ensures c.put_decimal-size_end.ensures c.put_byte.ensures))
+
+pub returns : goal.returns
+returns c = wrote_then c.put_decimal-tag_end.ensures (wrote-5 c.put_byte-offset_at.ensures c.put_decimal-offset_end.ensures c.put_byte-size_at.ensures c.put_decimal-size_end.ensures c.put_byte.ensures)

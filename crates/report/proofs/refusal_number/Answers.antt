@@ -1,0 +1,12 @@
+-- `report::refusal_number` meets its contract: a refusal has one number. Assumes nothing.
+use mathlib.Core.Path.{◌≡◌, ◌∙◌}
+use borrow.Author.Rules.{rules}
+use Rattle.table.specs.Answers.{refuses}
+use Rattle.report.proofs.refusal_number.Goals as goal
+
+pub returns : goal.returns
+returns c =
+    λ n d e.
+    let z : refuses ⁇c.Numbers-of.result.number ⁇c.Numbers-of.result.detail ≡ refuses n d = ⁇c.Numbers-of.ensures ∙ e in
+    let same : ⁇c.Numbers-of.result.number ≡ n = cc in
+    same
