@@ -5,10 +5,6 @@ pub mod Holding
 pub mod OneCall
 pub mod Runs
 pub mod Hold
--- The walks of the functions that a live line is lent to.
-pub mod Stepping
-pub mod Behind
-pub mod Handed
 -- What only the functions inside need.
 mod Sizes
 mod Answering

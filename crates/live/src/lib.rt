@@ -1,6 +1,8 @@
 // The live line: a line that is still being typed, with the rules that it is read by. Each call alters it by one byte and tells whether it has a
 // reading, and whether some bytes behind it would make it a line that has one.
 
+#![tactic(auto)]
+
 ghost use Rattle.std.specs.Prelude.{◌/◌, ◌≤◌, ◌<◌, ◌≡◌, true, length};
 ghost use Rattle.posix.specs.Spells.{spells};
 ghost use Rattle.posix.specs.Extends.{extends};
@@ -13,6 +15,7 @@ ghost use Rattle.live.specs.Lines.{refused_line, lengthened, shortened};
 ghost use Rattle.live.specs.Calls.{heard_says, new_says, new_leaves, if_held, line_says, add_says, add_leaves, take_back_says, take_back_leaves};
 ghost use Rattle.live.specs.Steps.{Held, Answered};
 
+use std::mem::replace;
 use table::{Answer, Refusal};
 
 // A line that is still being typed: the first `size` bytes of `table` are the rule table, `start` is the start number, and the first `count`
@@ -245,7 +248,7 @@ impl LiveLine {
         ensures line { self.new ≡ add_leaves self.old byte (length work.old) }
         ensures work { is_refused (add_says self.old byte (length work.old)) ≡ true → work.new ≡ work.old }
     {
-        let step = LiveLine::added(*self, byte, work);
+        let step = LiveLine::added(replace(self, refused_line()), byte, work);
         *self = step.line;
         step.answer
     }
@@ -256,7 +259,7 @@ impl LiveLine {
         ensures line { self.new ≡ take_back_leaves self.old (length work.old) }
         ensures work { is_refused (take_back_says self.old (length work.old)) ≡ true → work.new ≡ work.old }
     {
-        let step = LiveLine::taken_back(*self, work);
+        let step = LiveLine::taken_back(replace(self, refused_line()), work);
         *self = step.line;
         step.answer
     }

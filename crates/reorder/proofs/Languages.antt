@@ -2,7 +2,7 @@
 -- Assumes nothing.
 use Prim.Native.Nat.{ℕ, zero, suc, ◌<◌}
 use native.Mathlib.Omega.{arith}
-use mathlib.Core.Path.{◌≡◌, refl, sym, ◌∙◌, ap, ap₂}
+use mathlib.Core.Path.{◌≡◌, refl, sym, ◌∙◌, ap, ap₂, subst}
 use mathlib.Core.Logic.{◌⊎◌, inl, inr, ⊎_elim, ⊎_map, ◌↔◌}
 use mathlib.Core.Bool.{Bool, true, false}
 use mathlib.Core.List.{List}
@@ -24,19 +24,29 @@ pub data Twin (x : ℕ → Bool) (t u : List ℕ) (j : ℕ) : Exp → Exp → Ty
   twin_empty : Twin x t u j empty empty
   twin_letter : (b : ByteSet) → Twin x t u j (letter b) (letter b)
   twin-or :
-      x j ≡ false → a_at t j < j → b_at t j < j
-      → Twin x t u j (or (exp_of t (a_at t j)) (exp_of t (b_at t j))) (or (exp_of u (a_at t j)) (exp_of u (b_at t j)))
+      {r1 r2 r1' r2' : Exp} → x j ≡ false → a_at t j < j → b_at t j < j
+      → exp_of t (a_at t j) ≡ r1 → exp_of t (b_at t j) ≡ r2 → exp_of u (a_at t j) ≡ r1' → exp_of u (b_at t j) ≡ r2'
+      → Twin x t u j (or r1 r2) (or r1' r2')
   twin-crossed :
-      x j ≡ true → a_at t j < j → b_at t j < j
-      → Twin x t u j (or (exp_of t (a_at t j)) (exp_of t (b_at t j))) (or (exp_of u (b_at t j)) (exp_of u (a_at t j)))
+      {r1 r2 r1' r2' : Exp} → x j ≡ true → a_at t j < j → b_at t j < j
+      → exp_of t (a_at t j) ≡ r1 → exp_of t (b_at t j) ≡ r2 → exp_of u (a_at t j) ≡ r1' → exp_of u (b_at t j) ≡ r2'
+      → Twin x t u j (or r1 r2) (or r2' r1')
   twin-seq :
-      x j ≡ false → a_at t j < j → b_at t j < j
-      → Twin x t u j (seq (exp_of t (a_at t j)) (exp_of t (b_at t j))) (seq (exp_of u (a_at t j)) (exp_of u (b_at t j)))
-  twin_star : x j ≡ false → a_at t j < j → Twin x t u j (star (exp_of t (a_at t j))) (star (exp_of u (a_at t j)))
+      {r1 r2 r1' r2' : Exp} → x j ≡ false → a_at t j < j → b_at t j < j
+      → exp_of t (a_at t j) ≡ r1 → exp_of t (b_at t j) ≡ r2 → exp_of u (a_at t j) ≡ r1' → exp_of u (b_at t j) ≡ r2'
+      → Twin x t u j (seq r1 r2) (seq r1' r2')
+  twin_star :
+      {r1 r1' : Exp} → x j ≡ false → a_at t j < j → exp_of t (a_at t j) ≡ r1 → exp_of u (a_at t j) ≡ r1' → Twin x t u j (star r1) (star r1')
+
+pub twin-at : {x : ℕ → Bool} {t u : List ℕ} {j : ℕ} {r r' s s' : Exp} → r ≡ s → r' ≡ s' → Twin x t u j r r' → Twin x t u j s s'
+twin-at {x} {t} {u} {j} {r} {r'} {s} {s'} e f w = subst (λ (y : Exp). Twin x t u j y s') e (subst (λ (y : Exp). Twin x t u j r y) f w)
 
 -- the two spell the same lines
 abbrev pub SameLines : Exp → Exp → Type 0
 SameLines r r' = (s : List ℕ) → L r s ↔ L r' s
+
+pub lines-at : {r r' s s' : Exp} → r ≡ s → r' ≡ s' → SameLines r r' → SameLines s s'
+lines-at {r} {r'} {s} {s'} e f w = subst (λ (y : Exp). SameLines y s') e (subst (λ (y : Exp). SameLines r y) f w)
 
 module _ {x : ℕ → Bool} {t u : List ℕ} (e : Exchanged x t u) (p : Passes t) where
   -- a record of another kind than Or is as it was
@@ -62,13 +72,13 @@ module _ {x : ℕ → Bool} {t u : List ℕ} (e : Exchanged x t u) (p : Passes t
           let cb : b_at u j ≡ a_at t j = crossed-b e j g in
           let q : exp_of u j ≡ or (exp_of u (b_at t j)) (exp_of u (a_at t j)) =
           exp-or u j (kind-u f) (omega (arith, ca)) (omega (arith, cb)) ∙ ap₂ (λ (m n : ℕ). or (exp_of u m) (exp_of u n)) ca cb in
-          rw (exp-or t j f la lb, q) (twin-crossed g la lb)
+          rw (exp-or t j f la lb, q) (twin-crossed g la lb refl refl refl refl)
       two-or f la lb false g =
           let ca : a_at u j ≡ a_at t j = same-a e j g in
           let cb : b_at u j ≡ b_at t j = same-b e j g in
           let q : exp_of u j ≡ or (exp_of u (a_at t j)) (exp_of u (b_at t j)) =
           exp-or u j (kind-u f) (omega (arith, ca)) (omega (arith, cb)) ∙ ap₂ (λ (m n : ℕ). or (exp_of u m) (exp_of u n)) ca cb in
-          rw (exp-or t j f la lb, q) (twin-or g la lb)
+          rw (exp-or t j f la lb, q) (twin-or g la lb refl refl refl refl)
 
       two-seq : kind_at t j ≡ 4 → a_at t j < j → b_at t j < j → Twin x t u j (exp_of t j) (exp_of u j)
       two-seq f la lb =
@@ -77,14 +87,14 @@ module _ {x : ℕ → Bool} {t u : List ℕ} (e : Exchanged x t u) (p : Passes t
           let cb : b_at u j ≡ b_at t j = same-b e j g in
           let q : exp_of u j ≡ seq (exp_of u (a_at t j)) (exp_of u (b_at t j)) =
           exp-seq u j (kind-u f) (omega (arith, ca)) (omega (arith, cb)) ∙ ap₂ (λ (m n : ℕ). seq (exp_of u m) (exp_of u n)) ca cb in
-          rw (exp-seq t j f la lb, q) (twin-seq g la lb)
+          rw (exp-seq t j f la lb, q) (twin-seq g la lb refl refl refl refl)
 
       one-star : kind_at t j ≡ 5 → a_at t j < j → Twin x t u j (exp_of t j) (exp_of u j)
       one-star f la =
           let g : x j ≡ false = plain j 5 f (λ (z : 5 ≡ 3). omega arith) in
           let ca : a_at u j ≡ a_at t j = same-a e j g in
           let q : exp_of u j ≡ star (exp_of u (a_at t j)) = exp-star u j (kind-u f) (omega (arith, ca)) ∙ ap (λ (m : ℕ). star (exp_of u m)) ca in
-          rw (exp-star t j f la, q) (twin_star g la)
+          rw (exp-star t j f la, q) (twin_star g la refl refl)
 
       one-letter : (n : ℕ) → kind_at t j ≡ n → ¬ (n ≡ 3) → (n ≡ 2) ⊎ (n ≡ 6) → Twin x t u j (exp_of t j) (exp_of u j)
       one-letter n f d k =
@@ -106,13 +116,21 @@ module _ {x : ℕ → Bool} {t u : List ℕ} (e : Exchanged x t u) (p : Passes t
   twin-lines j twin_nothing f s = (λ l. l, λ l. l)
   twin-lines j twin_empty f s = (λ l. l, λ l. l)
   twin-lines j (twin_letter b) f s = (λ l. l, λ l. l)
-  twin-lines j (twin-or g la lb) f s = (⊎_map (f _ la s).0 (f _ lb s).0, ⊎_map (f _ la s).1 (f _ lb s).1)
-  twin-lines j (twin-crossed g la lb) f s = (
-    ⊎_elim (λ l. inr ((f _ la s).0 l)) (λ l. inl ((f _ lb s).0 l)),
-    ⊎_elim (λ l. inr ((f _ lb s).1 l)) (λ l. inl ((f _ la s).1 l)),
-  )
-  twin-lines j (twin-seq g la lb) f s = (parts-map (λ v. (f _ la v).0) (λ v. (f _ lb v).0), parts-map (λ v. (f _ la v).1) (λ v. (f _ lb v).1))
-  twin-lines j (twin_star g la) f s = (iterated-map (λ v. (f _ la v).0), iterated-map (λ v. (f _ la v).1))
+  twin-lines j (twin-or {r1} {r2} {r1'} {r2'} g la lb ta tb ua ub) f s =
+      let m : SameLines r1 r1' = lines-at ta ua (f (a_at t j) la) in
+      let n : SameLines r2 r2' = lines-at tb ub (f (b_at t j) lb) in
+      (⊎_map (m s).0 (n s).0, ⊎_map (m s).1 (n s).1)
+  twin-lines j (twin-crossed {r1} {r2} {r1'} {r2'} g la lb ta tb ua ub) f s =
+      let m : SameLines r1 r1' = lines-at ta ua (f (a_at t j) la) in
+      let n : SameLines r2 r2' = lines-at tb ub (f (b_at t j) lb) in
+      (⊎_elim (λ l. inr ((m s).0 l)) (λ l. inl ((n s).0 l)), ⊎_elim (λ l. inr ((n s).1 l)) (λ l. inl ((m s).1 l)))
+  twin-lines j (twin-seq {r1} {r2} {r1'} {r2'} g la lb ta tb ua ub) f s =
+      let m : SameLines r1 r1' = lines-at ta ua (f (a_at t j) la) in
+      let n : SameLines r2 r2' = lines-at tb ub (f (b_at t j) lb) in
+      (parts-map (λ v. (m v).0) (λ v. (n v).0), parts-map (λ v. (m v).1) (λ v. (n v).1))
+  twin-lines j (twin_star {r1} {r1'} g la ta ua) f s =
+      let m : SameLines r1 r1' = lines-at ta ua (f (a_at t j) la) in
+      (iterated-map (λ v. (m v).0), iterated-map (λ v. (m v).1))
 
   lines-below : (n j : ℕ) → j < n → j < count t → SameLines (exp_of t j) (exp_of u j)
   lines-below zero j m l = absurd (omega arith)

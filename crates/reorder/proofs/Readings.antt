@@ -15,7 +15,7 @@ use Rattle.reading.specs.Codec.{Record, record_bytes, kind_of, argument_of, head
 use Rattle.reorder.specs.Readings.{other_side, mirror, mirrored}
 use Rattle.reorder.proofs.Exchanging.{Exchanged}
 use Rattle.reorder.proofs.Checking.{same-a, same-b, crossed-a, crossed-b}
-use Rattle.reorder.proofs.Languages.{Twin, twin-or, twin-crossed, twin-seq, twin_star, twin}
+use Rattle.reorder.proofs.Languages.{Twin, twin-at, twin-or, twin-crossed, twin-seq, twin_star, twin}
 use Rattle.reorder.proofs.Values.{moved, moved-flat}
 
 cond_same : (y : Bool) (n : ℕ) → cond y n n ≡ n
@@ -41,10 +41,10 @@ module _ {x : ℕ → Bool} {t u : List ℕ} (e : Exchanged x t u) (p : Passes t
   mirror-kind : (j : ℕ) {r r' : Exp} {v : Val} → Reads r v → Twin x t u j r r' → cond (x j) (other_side (kind_of v)) (kind_of v) ≡ kind_of (moved x t j v)
   mirror-kind j reads_void w = cond_same (x j) 0
   mirror-kind j (reads_byte h) w = cond_same (x j) 1
-  mirror-kind j (reads_left q) (twin-or g la lb) = rw g
-  mirror-kind j (reads_left q) (twin-crossed g la lb) = rw g
-  mirror-kind j (reads_right q) (twin-or g la lb) = rw g
-  mirror-kind j (reads_right q) (twin-crossed g la lb) = rw g
+  mirror-kind j (reads_left q) (twin-or g la lb ta tb ua ub) = rw g
+  mirror-kind j (reads_left q) (twin-crossed g la lb ta tb ua ub) = rw g
+  mirror-kind j (reads_right q) (twin-or g la lb ta tb ua ub) = rw g
+  mirror-kind j (reads_right q) (twin-crossed g la lb ta tb ua ub) = rw g
   mirror-kind j (reads_pair q q') w = cond_same (x j) 4
   mirror-kind j reads_none w = cond_same (x j) 5
   mirror-kind j (reads_more q h q') w = cond_same (x j) 5
@@ -54,51 +54,53 @@ module _ {x : ℕ → Bool} {t u : List ℕ} (e : Exchanged x t u) (p : Passes t
 
   -- a part's records, by those below its own
   mirror-from :
-      (j : ℕ) → j < count t → {v : Val} → Reads (exp_of t j) v → (rest : List ℕ)
-      → (Twin x t u j (exp_of t j) (exp_of u j) → mirrored x (encode_below t j v ++ rest) ≡ encode_below u j (moved x t j v) ++ mirrored x rest)
+      (j : ℕ) → j < count t → {r r' : Exp} {v : Val} → exp_of t j ≡ r → exp_of u j ≡ r' → Reads r v → (rest : List ℕ)
+      → (Twin x t u j r r' → mirrored x (encode_below t j v ++ rest) ≡ encode_below u j (moved x t j v) ++ mirrored x rest)
       → mirrored x (encode t j v ++ rest) ≡ encode u j (moved x t j v) ++ mirrored x rest
-  mirror-from j l q rest f = ap₂ (λ (h : Record) (bs : List ℕ). record_bytes h ++ bs) (mirror-head j q (twin e p j l)) (f (twin e p j l))
+  mirror-from j l {r} {r'} y z q rest f =
+      let w : Twin x t u j r r' = twin-at y z (twin e p j l) in
+      ap₂ (λ (h : Record) (bs : List ℕ). record_bytes h ++ bs) (mirror-head j q w) (f w)
 
   mirror-below :
       (j : ℕ) → j < count t → {r r' : Exp} {v : Val} → Reads r v → Twin x t u j r r' → (rest : List ℕ)
       → mirrored x (encode_below t j v ++ rest) ≡ encode_below u j (moved x t j v) ++ mirrored x rest
   mirror-below j l reads_void w rest = refl
   mirror-below j l (reads_byte h) w rest = refl
-  mirror-below j l (reads_left q) (twin-or g la lb) rest =
+  mirror-below j l (reads_left q) (twin-or g la lb ta tb ua ub) rest =
       let m : a_at t j < count t = omega arith in
-      rw (g, same-a e j g) (mirror-from (a_at t j) m q rest (λ w. mirror-below (a_at t j) m q w rest))
-  mirror-below j l (reads_left q) (twin-crossed g la lb) rest =
+      rw (g, same-a e j g) (mirror-from (a_at t j) m ta ua q rest (λ w. mirror-below (a_at t j) m q w rest))
+  mirror-below j l (reads_left q) (twin-crossed g la lb ta tb ua ub) rest =
       let m : a_at t j < count t = omega arith in
-      rw (g, crossed-b e j g) (mirror-from (a_at t j) m q rest (λ w. mirror-below (a_at t j) m q w rest))
-  mirror-below j l (reads_right q) (twin-or g la lb) rest =
+      rw (g, crossed-b e j g) (mirror-from (a_at t j) m ta ua q rest (λ w. mirror-below (a_at t j) m q w rest))
+  mirror-below j l (reads_right q) (twin-or g la lb ta tb ua ub) rest =
       let n : b_at t j < count t = omega arith in
-      rw (g, same-b e j g) (mirror-from (b_at t j) n q rest (λ w. mirror-below (b_at t j) n q w rest))
-  mirror-below j l (reads_right q) (twin-crossed g la lb) rest =
+      rw (g, same-b e j g) (mirror-from (b_at t j) n tb ub q rest (λ w. mirror-below (b_at t j) n q w rest))
+  mirror-below j l (reads_right q) (twin-crossed g la lb ta tb ua ub) rest =
       let n : b_at t j < count t = omega arith in
-      rw (g, crossed-a e j g) (mirror-from (b_at t j) n q rest (λ w. mirror-below (b_at t j) n q w rest))
-  mirror-below j l (reads_pair {v = v} {w = v'} q q') (twin-seq g la lb) rest =
+      rw (g, crossed-a e j g) (mirror-from (b_at t j) n tb ub q rest (λ w. mirror-below (b_at t j) n q w rest))
+  mirror-below j l (reads_pair {v = v} {w = v'} q q') (twin-seq g la lb ta tb ua ub) rest =
       let m : a_at t j < count t = omega arith in
       let n : b_at t j < count t = omega arith in
       let second : List ℕ = encode t (b_at t j) v' ++ rest in
       rw (same-a e j g, same-b e j g)
       (ap (mirrored x) (append_assoc (encode t (a_at t j) v) (encode t (b_at t j) v') rest)
-      ∙ mirror-from (a_at t j) m q second (λ w. mirror-below (a_at t j) m q w second)
+      ∙ mirror-from (a_at t j) m ta ua q second (λ w. mirror-below (a_at t j) m q w second)
       ∙ ap (λ (bs : List ℕ). encode u (a_at t j) (moved x t (a_at t j) v) ++ bs)
-      (mirror-from (b_at t j) n q' rest (λ w. mirror-below (b_at t j) n q' w rest))
+      (mirror-from (b_at t j) n tb ub q' rest (λ w. mirror-below (b_at t j) n q' w rest))
       ∙ sym (append_assoc (encode u (a_at t j) (moved x t (a_at t j) v)) (encode u (b_at t j) (moved x t (b_at t j) v')) (mirrored x rest)))
   mirror-below j l reads_none w rest = refl
-  mirror-below j l (reads_more {v = v} {w = v'} q h q') (twin_star g la) rest =
+  mirror-below j l (reads_more {v = v} {w = v'} q h q') (twin_star g la ta ua) rest =
       let m : a_at t j < count t = omega arith in
       let second : List ℕ = encode_below t j v' ++ rest in
       rw (same-a e j g)
       (ap (mirrored x) (append_assoc (encode t (a_at t j) v) (encode_below t j v') rest)
-      ∙ mirror-from (a_at t j) m q second (λ w. mirror-below (a_at t j) m q w second)
-      ∙ ap (λ (bs : List ℕ). encode u (a_at t j) (moved x t (a_at t j) v) ++ bs) (mirror-below j l q' (twin_star g la) rest)
+      ∙ mirror-from (a_at t j) m ta ua q second (λ w. mirror-below (a_at t j) m q w second)
+      ∙ ap (λ (bs : List ℕ). encode u (a_at t j) (moved x t (a_at t j) v) ++ bs) (mirror-below j l q' (twin_star g la ta ua) rest)
       ∙ sym (append_assoc (encode u (a_at t j) (moved x t (a_at t j) v)) (encode_below u j (moved x t j v')) (mirrored x rest)))
 
   -- the whole reading
   pub moved-encode : (j : ℕ) → j < count t → {v : Val} → Reads (exp_of t j) v → encode u j (moved x t j v) ≡ mirrored x (encode t j v)
   moved-encode j l {v} q =
       sym (append-nil (encode u j (moved x t j v)))
-      ∙ sym (mirror-from j l q [] (λ w. mirror-below j l q w []))
+      ∙ sym (mirror-from j l refl refl q [] (λ w. mirror-below j l q w []))
       ∙ ap (mirrored x) (append-nil (encode t j v))

@@ -6,7 +6,7 @@ use mathlib.Core.Path.{◌≡◌, refl, ◌∙◌, ap, ap₂}
 use mathlib.Core.Logic.{inl, inr}
 use mathlib.Core.List.{List, [], ◌++◌}
 use lib.ListN.{length}
-use Rattle.posix.specs.Expressions.{or, seq, star}
+use Rattle.posix.specs.Expressions.{Exp, or, seq, star}
 use Rattle.posix.specs.Values.{Val, void, byte, left, right, pair, none, more, flat, Reads, reads_void, reads_byte, reads_left, reads_right, reads_pair, reads_none, reads_more}
 use Rattle.table.specs.Records.{count, a_at, b_at, tag_at, record_bytes, record_at}
 use Rattle.table.specs.Faults.{Passes}
@@ -93,9 +93,9 @@ module _ (T : List ℕ) where
   placed-from s v at e = rw (stands-tag s, e)
 
   placed-items :
-      (i a n : ℕ) (t : Tree) {w : Val} → a_at T i ≡ a
-      → ((v : Val) → Reads (expression t) v → (at : ℕ) → placed_parts T a v at ≡ tree_parts t v at)
-      → Reads (star (expression t)) w
+      (i a n : ℕ) (t : Tree) {r : Exp} {w : Val} → a_at T i ≡ a
+      → ((v : Val) → Reads r v → (at : ℕ) → placed_parts T a v at ≡ tree_parts t v at)
+      → Reads (star r) w
       → (at : ℕ)
       → placed_below T i w at ≡ tree_below (many t n) w at
   placed-items i a n t f each reads_none at = refl

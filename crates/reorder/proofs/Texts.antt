@@ -10,7 +10,7 @@ use mathlib.Core.List.{List, ◌++◌}
 use borrow.Author.Tests.{ltb-false}
 use lib.Dec.{ltb}
 use lib.ListN.{length, length-append}
-use Rattle.posix.specs.Expressions.{star}
+use Rattle.posix.specs.Expressions.{Exp, star}
 use Rattle.posix.specs.Values.{Val, left, right, pair, none, more, flat, records}
 use Rattle.posix.specs.Relation.{Posix, posix_left, posix_right, posix-pair, posix_none, posix-more}
 use Rattle.posix.specs.Decision.{Parsed, found, missing, parse}
@@ -121,7 +121,7 @@ regrouped-image e to_left (posix_right (posix_right {v = v} q other') other) =
     record { value = right v; posix = posix_right q (⊎_elim other other'); below = λ at. refl; counted = λ f. absurd (true≢false (sym e ∙ f)) }
 
 -- the parts with the root's, and the bytes
-module _ {g : Bool} {t t' : Tree} {s : List ℕ} {v : Val} (x : Step g t t') (q : Posix s (expression t) v) (i : Image g t t' s v) where
+module _ {g : Bool} {t t' : Tree} {r : Exp} {s : List ℕ} {v : Val} (x : Step g t t') (q : Posix s r v) (i : Image g t t' s v) where
   image-flat : flat i.value ≡ flat v
   image-flat = posix-flat i.posix ∙ sym (posix-flat q)
 
@@ -130,21 +130,22 @@ module _ {g : Bool} {t t' : Tree} {s : List ℕ} {v : Val} (x : Step g t t') (q 
 
 -- the iterations of a star, by each of them
 many-image :
-    {g : Bool} {t t' : Tree} {s : List ℕ} {w : Val} (n : ℕ) → Step g t t'
-    → ((s1 : List ℕ) (v : Val) → Posix s1 (expression t) v → length s1 ≤ 255 → Image g t t' s1 v)
-    → Posix s (star (expression t)) w
+    {g : Bool} {t t' : Tree} {r : Exp} {s : List ℕ} {w : Val} (n : ℕ) → Step g t t'
+    → SameLines r (expression t')
+    → ((s1 : List ℕ) (v : Val) → Posix s1 r v → length s1 ≤ 255 → Image g t t' s1 v)
+    → Posix s (star r) w
     → length s ≤ 255
     → Image g (many t n) (many t' n) s w
-many-image n x each (posix_none d) h = record { value = none; posix = posix_none d; below = λ at. refl; counted = λ f. refl }
-many-image {g = g} {t = t} {t' = t'} n x each (posix-more s1 s2 {v = v} {w = w} d some q q' long) h =
+many-image n x lines each (posix_none d) h = record { value = none; posix = posix_none d; below = λ at. refl; counted = λ f. refl }
+many-image {g = g} {t = t} {t' = t'} n x lines each (posix-more s1 s2 {v = v} {w = w} d some q q' long) h =
     let both = ap length d ∙ length-append s1 s2 in
     let i : Image g t t' s1 v = each s1 v q (omega (arith, both)) in
-    let j : Image g (many t n) (many t' n) s2 w = many-image n x each q' (omega (arith, both)) in
+    let j : Image g (many t n) (many t' n) s2 w = many-image n x lines each q' (omega (arith, both)) in
     record {
       value = more i.value j.value;
       posix =
           posix-more s1 s2 d some i.posix j.posix
-          (λ s3 s4 d' f y z. long s3 s4 d' f ((step_lines x (s1 ++ s3)).1 y) (iterated-map (λ u. (step_lines x u).1) z));
+          (λ s3 s4 d' f y z. long s3 s4 d' f ((lines (s1 ++ s3)).1 y) (iterated-map (λ u. (lines u).1) z));
       below =
           λ at.
           ap₂ ◌++◌ (image-parts x q i at)
@@ -182,7 +183,7 @@ step-image {g = g} (step_second {t = t} {u = u} {u' = u'} x) (posix-pair s1 s2 {
       below = λ at. ap (λ (y : List Token). tree_parts t v at ++ y) (image-parts x q' i (at + length (flat v)));
       counted = λ f. ap (λ (m : ℕ). suc (records v + m)) (i.counted f);
     }
-step-image (step_many {n = n} x) q h = many-image n x (λ s v q' h'. step-image x q' h') q h
+step-image (step_many {n = n} x) q h = many-image n x (step_lines x) (λ s v q' h'. step-image x q' h') q h
 
 -- the tables of two trees a step apart
 module _ {g : Bool} {t t' : Tree} (x : Step g t t') (o : Ordered t) (few : size t ≤ 255) where

@@ -3,7 +3,7 @@
 -- Assumes nothing.
 use Prim.Native.Nat.{ℕ, suc, ◌+◌, ◌≤◌, ◌<◌}
 use native.Mathlib.Omega.{arith}
-use mathlib.Core.Path.{◌≡◌, refl, ◌∙◌, ap, ap₂}
+use mathlib.Core.Path.{◌≡◌, refl, sym, ◌∙◌, ap, ap₂, subst}
 use mathlib.Core.Bool.{Bool, true, false, cond}
 use mathlib.Core.List.{List, ◌++◌}
 use lib.ListN.{length, length-append}
@@ -20,7 +20,7 @@ use Rattle.tokens.specs.Tokens.{placed_below, placed_parts, filter, has_size, to
 use Rattle.reorder.specs.Exchanges.{Apart}
 use Rattle.reorder.proofs.Exchanging.{Exchanged}
 use Rattle.reorder.proofs.Checking.{same-a, same-b, crossed-a, crossed-b}
-use Rattle.reorder.proofs.Languages.{Twin, twin_empty, twin_letter, twin-or, twin-crossed, twin-seq, twin_star, twin, same_lines}
+use Rattle.reorder.proofs.Languages.{Twin, twin_empty, twin_letter, twin-or, twin-crossed, twin-seq, twin_star, twin-at, lines-at, twin, same_lines}
 
 -- a value of record j, with Left and Right exchanged at the records at which x is true
 abbrev pub moved : (ℕ → Bool) → List ℕ → ℕ → Val → Val
@@ -62,6 +62,13 @@ module _ (x : ℕ → Bool) (t : List ℕ) where
   moved-records j none = refl
   moved-records j (more v w) = ap₂ ◌+◌ (moved-records (a_at t j) v) (moved-records j w)
 
+-- alternatives that share no line, by their expressions
+apart-at :
+    {t : List ℕ} {j : ℕ} {r1 r2 : Exp} → Apart t j → exp_of t (a_at t j) ≡ r1 → exp_of t (b_at t j) ≡ r2
+    → (s : List ℕ) → length s ≤ 255 → L r1 s → L r2 s → ⊥
+apart-at apart ta tb s h y z =
+    apart.share_none s h (subst (λ (r : Exp). L r s) (sym ta) y) (subst (λ (r : Exp). L r s) (sym tb) z)
+
 module _ {x : ℕ → Bool} {t u : List ℕ} (e : Exchanged x t u) (p : Passes t) where
   -- the alternatives share no line wherever fields are exchanged, up to record k
   module _ (k : ℕ) (apart : (j : ℕ) → j ≤ k → x j ≡ true → Apart t j) (inside : k < count t) where
@@ -69,40 +76,40 @@ module _ {x : ℕ → Bool} {t u : List ℕ} (e : Exchanged x t u) (p : Passes t
         (j : ℕ) → j ≤ k → {s : List ℕ} {r r' : Exp} {v : Val} → Posix s r v → length s ≤ 255 → Twin x t u j r r' → Posix s r' (moved x t j v)
     posix-twin j l (posix_void d) h twin_empty = posix_void d
     posix-twin j l (posix_byte c d) h (twin_letter b) = posix_byte c d
-    posix-twin j l (posix_left q) h (twin-or g la lb) =
+    posix-twin j l (posix_left q) h (twin-or g la lb ta tb ua ub) =
         let m : a_at t j < count t = omega arith in
-        rw g (posix_left (posix-twin (a_at t j) (omega arith) q h (twin e p (a_at t j) m)))
-    posix-twin j l {s} (posix_left q) h (twin-crossed g la lb) =
-        let m : a_at t j < count t = omega arith in
-        let n : b_at t j < count t = omega arith in
-        rw g
-        (posix_right (posix-twin (a_at t j) (omega arith) q h (twin e p (a_at t j) m))
-        (λ (z : L (exp_of u (b_at t j)) s). (apart j l g).share_none s h (posix-spelled q) ((same_lines e p (b_at t j) n s).1 z)))
-    posix-twin j l {s} (posix_right q other) h (twin-or g la lb) =
+        rw g (posix_left (posix-twin (a_at t j) (omega arith) q h (twin-at ta ua (twin e p (a_at t j) m))))
+    posix-twin j l {s} (posix_left q) h (twin-crossed g la lb ta tb ua ub) =
         let m : a_at t j < count t = omega arith in
         let n : b_at t j < count t = omega arith in
         rw g
-        (posix_right (posix-twin (b_at t j) (omega arith) q h (twin e p (b_at t j) n)) (λ (z : L (exp_of u (a_at t j)) s). other ((same_lines e p (a_at t j) m s).1 z)))
-    posix-twin j l (posix_right q other) h (twin-crossed g la lb) =
+        (posix_right (posix-twin (a_at t j) (omega arith) q h (twin-at ta ua (twin e p (a_at t j) m)))
+        (λ z. apart-at (apart j l g) ta tb s h (posix-spelled q) ((lines-at tb ub (same_lines e p (b_at t j) n) s).1 z)))
+    posix-twin j l {s} (posix_right q other) h (twin-or g la lb ta tb ua ub) =
+        let m : a_at t j < count t = omega arith in
         let n : b_at t j < count t = omega arith in
-        rw g (posix_left (posix-twin (b_at t j) (omega arith) q h (twin e p (b_at t j) n)))
-    posix-twin j l (posix-pair s1 s2 d q q' long) h (twin-seq g la lb) =
+        rw g
+        (posix_right (posix-twin (b_at t j) (omega arith) q h (twin-at tb ub (twin e p (b_at t j) n))) (λ z. other ((lines-at ta ua (same_lines e p (a_at t j) m) s).1 z)))
+    posix-twin j l (posix_right q other) h (twin-crossed g la lb ta tb ua ub) =
+        let n : b_at t j < count t = omega arith in
+        rw g (posix_left (posix-twin (b_at t j) (omega arith) q h (twin-at tb ub (twin e p (b_at t j) n))))
+    posix-twin j l (posix-pair s1 s2 d q q' long) h (twin-seq g la lb ta tb ua ub) =
         let m : a_at t j < count t = omega arith in
         let n : b_at t j < count t = omega arith in
         let size = ap length d ∙ length-append s1 s2 in
         posix-pair s1 s2 d
-        (posix-twin (a_at t j) (omega arith) q (omega (arith, size)) (twin e p (a_at t j) m))
-        (posix-twin (b_at t j) (omega arith) q' (omega (arith, size)) (twin e p (b_at t j) n))
-        (λ s3 s4 d' some y z. long s3 s4 d' some ((same_lines e p (a_at t j) m (s1 ++ s3)).1 y) ((same_lines e p (b_at t j) n s4).1 z))
-    posix-twin j l (posix_none d) h (twin_star g la) = posix_none d
-    posix-twin j l (posix-more s1 s2 d some q q' long) h (twin_star g la) =
+        (posix-twin (a_at t j) (omega arith) q (omega (arith, size)) (twin-at ta ua (twin e p (a_at t j) m)))
+        (posix-twin (b_at t j) (omega arith) q' (omega (arith, size)) (twin-at tb ub (twin e p (b_at t j) n)))
+        (λ s3 s4 d' some y z. long s3 s4 d' some ((lines-at ta ua (same_lines e p (a_at t j) m) (s1 ++ s3)).1 y) ((lines-at tb ub (same_lines e p (b_at t j) n) s4).1 z))
+    posix-twin j l (posix_none d) h (twin_star g la ta ua) = posix_none d
+    posix-twin j l (posix-more s1 s2 d some q q' long) h (twin_star g la ta ua) =
         let m : a_at t j < count t = omega arith in
         let size = ap length d ∙ length-append s1 s2 in
         posix-more s1 s2 d some
-        (posix-twin (a_at t j) (omega arith) q (omega (arith, size)) (twin e p (a_at t j) m))
-        (posix-twin j l q' (omega (arith, size)) (twin_star g la))
+        (posix-twin (a_at t j) (omega arith) q (omega (arith, size)) (twin-at ta ua (twin e p (a_at t j) m)))
+        (posix-twin j l q' (omega (arith, size)) (twin_star g la ta ua))
         (λ s3 s4 d' n y z.
-        long s3 s4 d' n ((same_lines e p (a_at t j) m (s1 ++ s3)).1 y) (iterated-map (λ v. (same_lines e p (a_at t j) m v).1) z))
+        long s3 s4 d' n ((lines-at ta ua (same_lines e p (a_at t j) m) (s1 ++ s3)).1 y) (iterated-map (λ v. (lines-at ta ua (same_lines e p (a_at t j) m) v).1) z))
 
     -- the reading of the line
     pub posix-moved : {s : List ℕ} {v : Val} → Posix s (exp_of t k) v → length s ≤ 255 → Posix s (exp_of u k) (moved x t k v)
@@ -119,32 +126,32 @@ module _ {x : ℕ → Bool} {t u : List ℕ} (e : Exchanged x t u) (p : Passes t
       → placed_below u j (moved x t j v) at ≡ placed_below t j v at
   placed-twin j l reads_void at w = refl
   placed-twin j l (reads_byte h) at w = refl
-  placed-twin j l (reads_left {v = v} q) at (twin-or g la lb) =
+  placed-twin j l (reads_left {v = v} q) at (twin-or g la lb ta tb ua ub) =
       let m : a_at t j < count t = omega arith in
-      rw (g, same-a e j g) (placed-from (a_at t j) m v at (placed-twin (a_at t j) m q at))
-  placed-twin j l (reads_left {v = v} q) at (twin-crossed g la lb) =
+      rw (g, same-a e j g) (placed-from (a_at t j) m v at (λ w. placed-twin (a_at t j) m q at (twin-at ta ua w)))
+  placed-twin j l (reads_left {v = v} q) at (twin-crossed g la lb ta tb ua ub) =
       let m : a_at t j < count t = omega arith in
-      rw (g, crossed-b e j g) (placed-from (a_at t j) m v at (placed-twin (a_at t j) m q at))
-  placed-twin j l (reads_right {v = v} q) at (twin-or g la lb) =
+      rw (g, crossed-b e j g) (placed-from (a_at t j) m v at (λ w. placed-twin (a_at t j) m q at (twin-at ta ua w)))
+  placed-twin j l (reads_right {v = v} q) at (twin-or g la lb ta tb ua ub) =
       let n : b_at t j < count t = omega arith in
-      rw (g, same-b e j g) (placed-from (b_at t j) n v at (placed-twin (b_at t j) n q at))
-  placed-twin j l (reads_right {v = v} q) at (twin-crossed g la lb) =
+      rw (g, same-b e j g) (placed-from (b_at t j) n v at (λ w. placed-twin (b_at t j) n q at (twin-at tb ub w)))
+  placed-twin j l (reads_right {v = v} q) at (twin-crossed g la lb ta tb ua ub) =
       let n : b_at t j < count t = omega arith in
-      rw (g, crossed-a e j g) (placed-from (b_at t j) n v at (placed-twin (b_at t j) n q at))
-  placed-twin j l (reads_pair {v = v} {w = w} q q') at (twin-seq g la lb) =
+      rw (g, crossed-a e j g) (placed-from (b_at t j) n v at (λ w. placed-twin (b_at t j) n q at (twin-at tb ub w)))
+  placed-twin j l (reads_pair {v = v} {w = w} q q') at (twin-seq g la lb ta tb ua ub) =
       let m : a_at t j < count t = omega arith in
       let n : b_at t j < count t = omega arith in
       let next : ℕ = at + length (flat v) in
       rw (same-a e j g, same-b e j g)
-      (ap₂ ◌++◌ (placed-from (a_at t j) m v at (placed-twin (a_at t j) m q at))
-      (rw (moved-flat x t (a_at t j) v) (placed-from (b_at t j) n w next (placed-twin (b_at t j) n q' next))))
+      (ap₂ ◌++◌ (placed-from (a_at t j) m v at (λ w. placed-twin (a_at t j) m q at (twin-at ta ua w)))
+      (rw (moved-flat x t (a_at t j) v) (placed-from (b_at t j) n w next (λ w. placed-twin (b_at t j) n q' next (twin-at tb ub w)))))
   placed-twin j l reads_none at w = refl
-  placed-twin j l (reads_more {v = v} {w = w} q h q') at (twin_star g la) =
+  placed-twin j l (reads_more {v = v} {w = w} q h q') at (twin_star g la ta ua) =
       let m : a_at t j < count t = omega arith in
       let next : ℕ = at + length (flat v) in
       rw (same-a e j g)
-      (ap₂ ◌++◌ (placed-from (a_at t j) m v at (placed-twin (a_at t j) m q at))
-      (rw (moved-flat x t (a_at t j) v) (placed-twin j l q' next (twin_star g la))))
+      (ap₂ ◌++◌ (placed-from (a_at t j) m v at (λ w. placed-twin (a_at t j) m q at (twin-at ta ua w)))
+      (rw (moved-flat x t (a_at t j) v) (placed-twin j l q' next (twin_star g la ta ua))))
 
   pub moved-tokens : (j : ℕ) → j < count t → {v : Val} → Reads (exp_of t j) v → (at : ℕ) → tokens_from u j (moved x t j v) at ≡ tokens_from t j v at
   moved-tokens j l {v} q at = ap (filter has_size) (placed-from j l v at (placed-twin j l q at))
