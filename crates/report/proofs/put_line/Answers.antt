@@ -7,10 +7,6 @@ use Rattle.printing.proofs.Writes.{wrote-length, wrote-5, wrote-room}
 use Rattle.printing.proofs.Digits.{length-decimal}
 use Rattle.report.proofs.put_line.Goals as goal
 
--- LEFT
--- slice-aggregate-put-text : tie.Need-slice-aggregate-put-text
--- slice-aggregate-put-text c = search rules
-
 pub put_decimal-word_at-requires : goal.put_decimal-word_at-requires
 put_decimal-word_at-requires c = omega (arith, (wrote-room c.put_text-number_at.ensures 5 (41 + length c.args.word.now) (omega arith) (omega (arith, c.requires))), length-decimal c.args.number (omega (arith, c.ranges.number)))
 

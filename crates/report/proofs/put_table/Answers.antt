@@ -5,10 +5,6 @@ use Rattle.printing.proofs.Writes.{wrote-length, wrote-3}
 use Rattle.printing.proofs.Digits.{length-decimal}
 use Rattle.report.proofs.put_table.Goals as goal
 
--- LEFT
--- slice-aggregate-put-text : tie.Need-slice-aggregate-put-text
--- slice-aggregate-put-text c = search rules
-
 pub put_decimal-refusal_end-requires : goal.put_decimal-refusal_end-requires
 put_decimal-refusal_end-requires c = omega (arith, c.requires, wrote-length c.put_text-refusal_at.ensures, c.put_text-refusal_at.ensures.moved, length-decimal c.args.refusal (omega (arith, c.ranges.refusal)))
 

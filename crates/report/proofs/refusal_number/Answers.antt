@@ -7,6 +7,6 @@ use Rattle.report.proofs.refusal_number.Goals as goal
 pub returns : goal.returns
 returns c =
     λ n d e.
-    let z : refuses ⁇c.Numbers-of.result.number ⁇c.Numbers-of.result.detail ≡ refuses n d = ⁇c.Numbers-of.ensures ∙ e in
-    let same : ⁇c.Numbers-of.result.number ≡ n = cc in
+    let z : refuses c.numbers_of-numbers.result.number c.numbers_of-numbers.result.detail ≡ refuses n d = c.numbers_of-numbers.ensures ∙ e in
+    let same : c.numbers_of-numbers.result.number ≡ n = cc in
     same

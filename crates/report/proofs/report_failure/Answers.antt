@@ -7,10 +7,6 @@ use Rattle.printing.proofs.Digits.{length-decimal}
 use borrow.Author.Rules.{rules}
 use Rattle.report.proofs.report_failure.Goals as goal
 
--- LEFT
--- slice-aggregate-put-text : tie.Need-slice-aggregate-put-text
--- slice-aggregate-put-text c = search rules
-
 pub put_decimal-requires : goal.put_decimal-requires
 put_decimal-requires c = omega (arith, c.requires, wrote-length c.put_text-number_at.ensures, c.put_text-number_at.ensures.moved, length-decimal c.args.number (omega (arith, c.ranges.number)))
 

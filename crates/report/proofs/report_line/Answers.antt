@@ -12,24 +12,26 @@ use Rattle.report.proofs.report_line.Goals as goal
 
 pub put_tokens-requires : goal.put_tokens-requires
 put_tokens-requires c =
-    let d : tie.After-count = c.before.before.before.before.before.before.before in
-    let x = listing d in let x = (
-      omega (arith, x.room, (call d).lex.auto.1.1.1.1.1.0),
-      omega (arith, x.few, (start (call d)).requires.1.1.1, c.before.before.before.before.put-ok.ensures.0, wrote-length c.before.before.before.before.put-ok.ensures.1),
-    ) ⁇ in record { tokens = x.0; room = x.1 }
+    let x : Lexed c.args.table.now c.args.start c.args.line.now c.args.tokens.now c.lex.new.tokens c.in-Done.count =
+    lexed c.args.table.now c.args.start c.args.line.now (length c.args.work.now) (length c.args.reading.now) c.args.tokens.now
+    c.lex.ensures.answer c.in-Done.is c.lex.ensures.buffer in
+    record {
+      tokens = omega (arith, x.room, c.lex.auto.tokens);
+      room = omega (arith, x.few, c.requires.out, c.put_ok-at.ensures.bound, wrote-length c.put_ok-at.ensures.line);
+    }
 
 pub returns-in-Done : goal.returns-in-Done
 returns-in-Done c =
-    let d : tie.After-count = c.before.before.before.before.before.before.before.before.before.before in
-    let x = listing d in
-    let y = start (call d) in
-    let x = line_read _ _ _ y.args.number y.pre.0 y.pre.1.0 y.pre.1.1.0 (call d).lex.ensures.0 d.count.given.1 x.counted c.before.before.before.before.before.before.before.put-ok.ensures.1
-    (c.before.before.put-tokens.ensures.1 (listed d) x.front)
-    (omega (arith, x.few, c.before.before.before.before.before.before.before.put-ok.ensures.0, c.before.before.put-tokens.ensures.0)) y.pre.1.1.1 ⁇ in record { bound = x.0; size = x.1.0; buffer = x.1.1 }
+    let x : Lexed c.args.table.now c.args.start c.args.line.now c.args.tokens.now c.lex.new.tokens c.in-Done.count =
+    lexed c.args.table.now c.args.start c.args.line.now (length c.args.work.now) (length c.args.reading.now) c.args.tokens.now
+    c.lex.ensures.answer c.in-Done.is c.lex.ensures.buffer in
+    let y = line_read _ _ _ c.args.number c.requires.work c.requires.reading c.requires.tokens c.lex.ensures.answer c.in-Done.is x.counted c.put_ok-at.ensures.line
+    (c.put_tokens.ensures.lines (tokens_of c.args.table.now c.args.start c.args.line.now) x.front)
+    (omega (arith, x.few, c.put_ok-at.ensures.bound, c.put_tokens.ensures.bound)) c.requires.out in
+    record { bound = y.0; size = y.1.0; buffer = y.1.1 }
 
 pub returns-in-Refused : goal.returns-in-Refused
 returns-in-Refused c =
-    let d : tie.After-lex = ⁇c.before.before.before.before.before.before.before.before.before.before.before.before.before.before in
-    let y = d.before.before.before.before.before.before.before.before.before.before in
-    let x = line_refused _ _ _ y.args.number y.pre.0 y.pre.1.0 y.pre.1.1.0 d.lex.ensures.0 c.in-Refused.is
-    c.refusal_number.ensures ⁇c.before.before.Put-refused.ensures.1 ⁇c.before.before.Put-refused.ensures.0 y.pre.1.1.1 in record { bound = x.0; size = x.1.0; buffer = x.1.1 }
+    let y = line_refused _ _ _ c.args.number c.requires.work c.requires.reading c.requires.tokens c.lex.ensures.answer c.in-Refused.is
+    c.refusal_number.ensures c.put_refused.ensures.line c.put_refused.ensures.bound c.requires.out in
+    record { bound = y.0; size = y.1.0; buffer = y.1.1 }
