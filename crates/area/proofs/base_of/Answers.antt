@@ -1,10 +1,7 @@
 -- `area::base_of` meets its contract. The loop's invariant: the Star spells the lines of a Star of record j.
 -- Assumes nothing.
 use native.Mathlib.Omega.{arith}
-use mathlib.Core.Path.{◌≡◌, sym, ◌∙◌}
-use borrow.Author.Rules.{rules}
-use Rattle.table.specs.Records.{kind_at}
-use Rattle.area.specs.Filling.{Base}
+use mathlib.Core.Path.{sym, ◌∙◌}
 use Rattle.area.proofs.Records.{base-first, base-next}
 use Rattle.area.proofs.base_of.Goals as goal
 

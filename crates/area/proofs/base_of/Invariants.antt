@@ -1,11 +1,8 @@
 -- `area::base_of` meets its contract. The loop's invariant: the Star spells the lines of a Star of record j.
 -- Assumes nothing.
-use native.Mathlib.Omega.{arith}
-use mathlib.Core.Path.{◌≡◌, sym, ◌∙◌}
-use borrow.Author.Rules.{rules}
+use mathlib.Core.Path.{◌≡◌}
 use Rattle.table.specs.Records.{kind_at}
 use Rattle.area.specs.Filling.{Base}
-use Rattle.area.proofs.Records.{base-first, base-next}
 use Rattle.area.proofs.base_of.Given as goal
 
 abbrev pub invariant-loop-kind : goal.invariant-loop-kind

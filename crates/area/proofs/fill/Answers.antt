@@ -4,7 +4,6 @@ use native.Mathlib.Omega.{arith}
 use mathlib.Core.Path.{refl}
 use Rattle.table.proofs.Passing.{count-bound}
 use Rattle.area.proofs.Filling.{count_room}
-use borrow.Author.Rules.{rules}
 use Rattle.area.proofs.fill.Goals as goal
 
 pub find_empty-requires : goal.find_empty-requires

@@ -1,10 +1,7 @@
 -- `area::fill_block` meets its contract. The loop's invariant: the records below `k` are made, and who is woken is marked.
 -- Assumes nothing.
-use Prim.Native.Nat.{◌≤◌, ◌-◌}
 use native.Mathlib.Omega.{arith}
-use lib.ListN.{length}
 use mathlib.Core.Path.{◌≡◌, refl, ◌∙◌}
-use Rattle.area.specs.Filling.{Progress, Woken}
 use Rattle.area.proofs.Known.{few}
 use Rattle.area.proofs.Blocks.{progress-more, woken-more}
 use Rattle.area.proofs.Filling.{passed-next}

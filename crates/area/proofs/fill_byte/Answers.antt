@@ -1,7 +1,6 @@
 -- `area::fill_byte` meets its contract: the seeds start a block, and the block is filled to its end.
 -- Assumes nothing.
 use native.Mathlib.Omega.{arith}
-use borrow.Author.Rules.{rules}
 use mathlib.Core.Path.{refl, ◌∙◌}
 use Rattle.area.proofs.Filling.{behind-low, block_start, block-woken, block-end, sized-few}
 use Rattle.area.proofs.fill_byte.Goals as goal
@@ -16,16 +15,16 @@ pub set_lows-requires : goal.set_lows-requires
 set_lows-requires c = record { m_bound = (sized-few c.requires.sized, c.requires.in_bounds, c.requires.sized.short); d_in_bounds = omega (arith, c.requires.sized.room, c.seed_block.ensures.size); n_le_m = c.requires.planned.listed.few; by_index = c.requires.planned.listed.only }
 
 pub overflow_cast-c : goal.overflow_cast-c
-overflow_cast-c c = omega (arith, c.shared_slice_known-3-1.given 0)
+overflow_cast-c c = omega (arith, c.type_inv.rest 0)
 
 pub overflow_mul-c : goal.overflow_mul-c
-overflow_mul-c c = omega (arith, c.shared_slice_known-3-1.given 0)
+overflow_mul-c c = omega (arith, c.type_inv.rest 0)
 
 pub copy_marks-requires : goal.copy_marks-requires
-copy_marks-requires c = omega (arith, c.shared_slice_known-3-1.given 0, c.requires.planned.waking.size)
+copy_marks-requires c = omega (arith, c.type_inv.rest 0, c.requires.planned.waking.size)
 
 pub fill_block-requires : goal.fill_block-requires
-fill_block-requires c = record { progress = block_start _ _ _ _ _ _ _ _ c.requires.sized c.requires.in_bounds (λ i l. omega (arith, c.shared_slice_known-3-1.given i)) c.requires.filled_for c.requires.planned.bounded c.requires.planned.listed c.seed_block.ensures c.set_lows.ensures; bounded = c.requires.planned.bounded; parents = c.requires.planned.parents; woken = block-woken _ _ _ _ _ _ _ _ c.requires.sized c.requires.in_bounds (λ i l. omega (arith, c.shared_slice_known-3-1.given i)) c.requires.filled_for c.requires.planned.bounded c.requires.planned.listed c.seed_block.ensures c.set_lows.ensures _ _ _ c.requires.planned.parents c.requires.planned.waking _ refl c.copy_marks.ensures }
+fill_block-requires c = record { progress = block_start _ _ _ _ _ _ _ _ c.requires.sized c.requires.in_bounds (λ i l. omega (arith, c.type_inv.rest i)) c.requires.filled_for c.requires.planned.bounded c.requires.planned.listed c.seed_block.ensures c.set_lows.ensures; bounded = c.requires.planned.bounded; parents = c.requires.planned.parents; woken = block-woken _ _ _ _ _ _ _ _ c.requires.sized c.requires.in_bounds (λ i l. omega (arith, c.type_inv.rest i)) c.requires.filled_for c.requires.planned.bounded c.requires.planned.listed c.seed_block.ensures c.set_lows.ensures _ _ _ c.requires.planned.parents c.requires.planned.waking _ refl c.copy_marks.ensures }
 
 pub shape_of-work : goal.shape_of-work
 shape_of-work c = c.fill_block.ensures.work_len_unchanged ∙ (c.set_lows.ensures.size ∙ c.seed_block.ensures.size)

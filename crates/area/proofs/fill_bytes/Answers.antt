@@ -1,11 +1,7 @@
 -- `area::fill_bytes` meets its contract. The loop's invariant: the area tells the truth of the line from byte `i` on.
 -- Assumes nothing.
-use Prim.Native.Nat.{◌≤◌}
 use native.Mathlib.Omega.{arith}
-use lib.ListN.{length, drop}
-use mathlib.Core.Path.{◌≡◌, refl, ◌∙◌}
-use borrow.Author.Rules.{rules}
-use Rattle.area.specs.Filling.{FilledFor}
+use mathlib.Core.Path.{refl, ◌∙◌}
 use Rattle.area.proofs.Filling.{line-start, rest-sized, rest_some, rest-filled, rest-next, line-end}
 use Rattle.area.proofs.fill_bytes.Goals as goal
 

@@ -1,12 +1,9 @@
 -- `area::fill_bytes` meets its contract. The loop's invariant: the area tells the truth of the line from byte `i` on.
 -- Assumes nothing.
 use Prim.Native.Nat.{◌≤◌}
-use native.Mathlib.Omega.{arith}
 use lib.ListN.{length, drop}
-use mathlib.Core.Path.{◌≡◌, refl, ◌∙◌}
-use borrow.Author.Rules.{rules}
+use mathlib.Core.Path.{◌≡◌}
 use Rattle.area.specs.Filling.{FilledFor}
-use Rattle.area.proofs.Filling.{line-start, rest-sized, rest_some, rest-filled, rest-next, line-end}
 use Rattle.area.proofs.fill_bytes.Given as goal
 
 abbrev pub invariant-loop-i : goal.invariant-loop-i

@@ -2,7 +2,6 @@
 -- Assumes nothing.
 use Rattle.area.proofs.Records.{or-first, or-second, or-made}
 use mathlib.Core.Path.{◌∙◌}
-use borrow.Author.Rules.{rules}
 use Rattle.area.proofs.fill_or.Goals as goal
 
 pub add-requires : goal.add-requires

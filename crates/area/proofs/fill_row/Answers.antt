@@ -1,8 +1,8 @@
 -- `area::fill_row` meets its contract: one function for each kind, and a record without children has an empty row.
 -- Assumes nothing.
 use Rattle.area.proofs.Records.{leaf-made}
-use borrow.Author.Rules.{rules}
+use native.Mathlib.Omega.{arith}
 use Rattle.area.proofs.fill_row.Goals as goal
 
 pub returns-in_default : goal.returns-in_default
-returns-in_default c = leaf-made _ _ _ _ c.requires.ready c.requires.k_value c.kind_at-kind.ensures c.in_default.in_default-own.rest.0.0.1 c.in_default.in_default-own.rest.0.1 c.in_default.in_default-own.rest.1
+returns-in_default c = leaf-made _ _ _ _ c.requires.ready c.requires.k_value c.kind_at-kind.ensures (λ z. omega arith) (λ z. omega arith) (λ z. omega arith)

@@ -4,7 +4,6 @@ use Rattle.area.proofs.Records.{record-there, a-child, empty-there, looked-set, 
 use mathlib.Core.Path.{sym, ◌∙◌}
 use mathlib.Core.Logic.{inr}
 use native.Mathlib.Omega.{arith}
-use borrow.Author.Rules.{rules}
 use Rattle.area.proofs.fill_seq.Goals as goal
 
 pub kind_at-requires : goal.kind_at-requires

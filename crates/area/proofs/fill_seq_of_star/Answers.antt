@@ -3,7 +3,6 @@
 use native.Mathlib.Omega.{arith}
 use mathlib.Core.Logic.{inr}
 use Rattle.area.proofs.Records.{a-child, seq-first, of-star-cutting, of-star-made}
-use borrow.Author.Rules.{rules}
 use Rattle.area.proofs.fill_seq_of_star.Goals as goal
 
 pub base_of-base-requires : goal.base_of-base-requires

@@ -4,7 +4,6 @@ use Rattle.area.proofs.Records.{record-there, b-child, seq-first, with-cutting, 
 use mathlib.Core.Path.{◌∙◌}
 use mathlib.Core.Logic.{inr}
 use native.Mathlib.Omega.{arith}
-use borrow.Author.Rules.{rules}
 use Rattle.area.proofs.fill_seq_with_empty.Goals as goal
 
 pub add-requires : goal.add-requires

@@ -3,7 +3,6 @@
 use Rattle.area.proofs.Records.{record-there, b-child, without-cutting, without-made}
 use mathlib.Core.Logic.{inr}
 use native.Mathlib.Omega.{arith}
-use borrow.Author.Rules.{rules}
 use Rattle.area.proofs.fill_seq_without_empty.Goals as goal
 
 pub kind_at-requires : goal.kind_at-requires

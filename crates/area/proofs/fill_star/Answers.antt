@@ -3,7 +3,6 @@
 use native.Mathlib.Omega.{arith}
 use mathlib.Core.Path.{sym, ◌∙◌}
 use Rattle.area.proofs.Records.{record-there, star-child, star-first, star-cutting, star-made, star-of-star-made}
-use borrow.Author.Rules.{rules}
 use Rattle.area.proofs.fill_star.Goals as goal
 
 pub kind_at-requires : goal.kind_at-requires

@@ -1,5 +1,4 @@
 -- `area::in_either` meets its contract: a test as a byte. Assumes nothing.
-use borrow.Author.Rules.{rules}
 use Rattle.plans.specs.Plans.{in_either}
 use Rattle.area.proofs.Seeds.{bool-byte}
 use Rattle.area.proofs.in_either.Goals as goal

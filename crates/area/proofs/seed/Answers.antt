@@ -3,7 +3,6 @@
 use native.Mathlib.Omega.{arith}
 use Rattle.plans.specs.Plans.{in_either}
 use Rattle.area.proofs.Seeds.{seed-right, one_byte}
-use borrow.Author.Rules.{rules}
 use Rattle.area.proofs.seed.Goals as goal
 
 pub overflow_mul-result : goal.overflow_mul-result

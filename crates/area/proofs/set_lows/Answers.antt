@@ -1,10 +1,8 @@
 -- `area::set_lows` meets its contract. The loop's invariant: the rows of the first `i` records start with 1.
 -- Assumes nothing.
-use Prim.Native.Nat.{◌≤◌, ◌-◌}
 use native.Mathlib.Omega.{arith}
 use mathlib.Core.Path.{◌≡◌, ◌∙◌, ap}
 use Rattle.rows.specs.Layout.{row_at}
-use Rattle.area.specs.Filling.{LowsSet}
 use Rattle.area.proofs.Seeds.{lows-none, lows-more, row_room}
 use Rattle.area.proofs.set_lows.Goals as goal
 

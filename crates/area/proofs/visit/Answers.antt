@@ -3,7 +3,6 @@
 use native.Mathlib.Omega.{arith}
 use Rattle.area.proofs.Blocks.{plain-seen, composite-ready, composite-visited}
 use Rattle.area.proofs.Known.{few}
-use borrow.Author.Rules.{rules}
 use Rattle.area.proofs.visit.Goals as goal
 
 pub bounds-bounds-k : goal.bounds-bounds-k

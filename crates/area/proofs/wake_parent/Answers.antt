@@ -2,7 +2,6 @@
 -- Assumes nothing.
 use native.Mathlib.Omega.{arith}
 use Rattle.area.proofs.Blocks.{unless-zero, unless-marked}
-use borrow.Author.Rules.{rules}
 use Rattle.area.proofs.wake_parent.Goals as goal
 
 pub longest-requires : goal.longest-requires

@@ -1,7 +1,6 @@
 -- `plans::empty_mark` meets its contract: one law of Finding for each way out. Assumes nothing.
 use native.Mathlib.Omega.{arith}
 use mathlib.Core.Logic.{inl, inr}
-use borrow.Author.Rules.{rules}
 use Rattle.plans.proofs.Finding.{empty-spelled, first_below, second_below, empty-or, empty-seq-not, empty-seq, empty-not}
 use Rattle.plans.proofs.empty_mark.Goals as goal
 

@@ -1,10 +1,9 @@
 -- `plans::find_bounds` meets its contract. The loop's invariant: the columns of the records below `k` are right.
 -- Assumes nothing.
-use Prim.Native.Nat.{◌/◌, ◌≤◌, ◌-◌}
+use Prim.Native.Nat.{◌/◌}
 use native.Mathlib.Omega.{arith}
 use mathlib.Core.Path.{◌≡◌}
 use lib.ListN.{length}
-use Rattle.plans.specs.Plans.{Bounded}
 use Rattle.plans.proofs.Plain.{bounded-none}
 use Rattle.plans.proofs.find_bounds.Goals as goal
 

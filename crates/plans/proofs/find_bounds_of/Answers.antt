@@ -1,6 +1,5 @@
 -- `plans::find_bounds_of` meets its contract: one law of Plain for each kind that is not left to another function. Assumes nothing.
 use mathlib.Core.Path.{sym, ◌∙◌}
-use borrow.Author.Rules.{rules}
 use Rattle.plans.proofs.Plain.{record-small, range-found, other-found, none_found}
 use Rattle.plans.proofs.find_bounds_of.Goals as goal
 

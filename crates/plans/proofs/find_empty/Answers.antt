@@ -1,10 +1,9 @@
 -- `plans::find_empty` meets its contract. The loop's invariant: the marks are right for the records below `k`.
 -- Assumes nothing.
-use Prim.Native.Nat.{◌/◌, ◌≤◌, ◌-◌}
+use Prim.Native.Nat.{◌/◌}
 use native.Mathlib.Omega.{arith}
 use mathlib.Core.Path.{◌≡◌, refl}
 use lib.ListN.{length, length-set}
-use Rattle.plans.specs.Plans.{EmptyTold}
 use Rattle.plans.proofs.Finding.{empty-none, empty-more}
 use Rattle.plans.proofs.find_empty.Goals as goal
 

@@ -3,7 +3,6 @@
 use native.Mathlib.Omega.{arith}
 use mathlib.Core.Path.{sym, ◌∙◌}
 use mathlib.Core.Logic.{inl}
-use borrow.Author.Rules.{rules}
 use Rattle.plans.proofs.Plain.{record-small, none-kind, first-inside, second-inside, or-found}
 use Rattle.plans.proofs.find_or.Goals as goal
 

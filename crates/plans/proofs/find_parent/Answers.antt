@@ -1,7 +1,6 @@
 -- `plans::find_parent` meets its contract: one law of Finding for each way out. Assumes nothing.
 use native.Mathlib.Omega.{arith}
 use mathlib.Core.Logic.{inl, inr}
-use borrow.Author.Rules.{rules}
 use Rattle.table.proofs.Passing.{count-bound, a-below}
 use Rattle.plans.proofs.Finding.{plain-parent, star-parent, both-parent, seq-parent, no-parent}
 use Rattle.plans.proofs.find_parent.Goals as goal

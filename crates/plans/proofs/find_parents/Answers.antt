@@ -1,10 +1,9 @@
 -- `plans::find_parents` meets its contract. The loop's invariant: the children of the records below `k` that are not plain are noted.
 -- Assumes nothing.
-use Prim.Native.Nat.{◌/◌, ◌≤◌, ◌-◌}
+use Prim.Native.Nat.{◌/◌}
 use native.Mathlib.Omega.{arith}
 use mathlib.Core.Path.{◌≡◌}
 use lib.ListN.{length}
-use Rattle.plans.specs.Plans.{Parents}
 use Rattle.plans.proofs.Finding.{parents-none}
 use Rattle.plans.proofs.find_parents.Goals as goal
 

@@ -1,11 +1,7 @@
 -- `plans::find_parents` meets its contract. The loop's invariant: the children of the records below `k` that are not plain are noted.
 -- Assumes nothing.
-use Prim.Native.Nat.{◌/◌, ◌≤◌, ◌-◌}
-use native.Mathlib.Omega.{arith}
-use mathlib.Core.Path.{◌≡◌}
-use lib.ListN.{length}
+use Prim.Native.Nat.{◌≤◌, ◌-◌}
 use Rattle.plans.specs.Plans.{Parents}
-use Rattle.plans.proofs.Finding.{parents-none}
 use Rattle.plans.proofs.find_parents.Given as goal
 
 abbrev pub invariant-loop-k : goal.invariant-loop-k

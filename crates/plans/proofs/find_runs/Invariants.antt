@@ -1,10 +1,7 @@
 -- `plans::find_runs` meets its contract. The loop's invariant: the records below `k` that repeat are listed.
 -- Assumes nothing.
 use Prim.Native.Nat.{◌≤◌, ◌-◌}
-use native.Mathlib.Omega.{arith}
-use mathlib.Core.Path.{◌≡◌}
 use Rattle.plans.specs.Plans.{Listed}
-use Rattle.plans.proofs.Finding.{listed-none}
 use Rattle.plans.proofs.find_runs.Given as goal
 
 abbrev pub invariant-loop-k : goal.invariant-loop-k

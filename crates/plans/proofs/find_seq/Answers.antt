@@ -3,8 +3,6 @@
 use native.Mathlib.Omega.{arith}
 use mathlib.Core.Path.{sym, ◌∙◌}
 use mathlib.Core.Logic.{inr}
-use borrow.Author.Tests.{not-false}
-use borrow.Author.Rules.{rules}
 use Rattle.plans.proofs.Plain.{record-small, none-kind, second-inside, first_below, run-seen, seq-found}
 use Rattle.plans.proofs.find_seq.Goals as goal
 

@@ -1,10 +1,7 @@
 -- `plans::find_sets` meets its contract. The loop's invariant: the records that those below `k` may matter to are marked.
 -- Assumes nothing.
 use Prim.Native.Nat.{◌≤◌, ◌-◌}
-use native.Mathlib.Omega.{arith}
-use mathlib.Core.Path.{◌≡◌}
 use Rattle.plans.specs.Plans.{Waking}
-use Rattle.plans.proofs.Finding.{waking-none}
 use Rattle.plans.proofs.find_sets.Given as goal
 
 abbrev pub invariant-loop-k : goal.invariant-loop-k

@@ -2,8 +2,6 @@
 -- Assumes nothing.
 use Prim.Native.Nat.{◌<◌}
 use native.Mathlib.Omega.{arith}
-use borrow.Author.Tests.{not-false}
-use borrow.Author.Rules.{rules}
 use Rattle.table.specs.Records.{a_at}
 use Rattle.table.proofs.Passing.{star-a-below}
 use Rattle.plans.proofs.Plain.{record-small, none-kind, star-found}

@@ -2,7 +2,6 @@
 -- Assumes nothing.
 use mathlib.Core.Path.{sym}
 use mathlib.Core.Bool.{true≢false}
-use borrow.Author.Rules.{rules}
 use Rattle.plans.proofs.Plain.{unit-seen}
 use Rattle.plans.proofs.is_unit.Goals as goal
 

@@ -1,6 +1,5 @@
 -- `plans::list_run` meets its contract: one law of Finding for each way out. Assumes nothing.
 use native.Mathlib.Omega.{arith}
-use borrow.Author.Rules.{rules}
 use Rattle.plans.proofs.Finding.{listed_same, listed_more}
 use Rattle.plans.proofs.list_run.Goals as goal
 

@@ -1,6 +1,5 @@
 -- `plans::put_bounds` meets its contract. Each store is at a place of its own, which Plain's law on six stores says.
 -- Assumes nothing.
-use borrow.Author.Rules.{rules}
 use Rattle.plans.proofs.Plain.{put_right}
 use Rattle.plans.proofs.put_bounds.Goals as goal
 

@@ -1,5 +1,4 @@
 -- `plans::put_other` meets its contract: one law of Plain for each way out. Assumes nothing.
-use borrow.Author.Rules.{rules}
 use Rattle.plans.proofs.Plain.{other-none-put, other-high-put, other-low-put, other-both-put}
 use Rattle.plans.proofs.put_other.Goals as goal
 

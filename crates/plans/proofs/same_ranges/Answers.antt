@@ -2,7 +2,6 @@
 -- Assumes nothing.
 use mathlib.Core.Path.{sym}
 use mathlib.Core.Bool.{true≢false}
-use borrow.Author.Rules.{rules}
 use Rattle.plans.proofs.Plain.{ranges-seen}
 use Rattle.plans.proofs.same_ranges.Goals as goal
 

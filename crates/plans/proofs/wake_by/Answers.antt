@@ -1,8 +1,6 @@
 -- `plans::wake_by` meets its contract. The loop's invariant: the record is marked in the sets of the bytes below `c`.
 -- Assumes nothing.
-use Prim.Native.Nat.{◌≤◌, ◌-◌}
 use native.Mathlib.Omega.{arith}
-use Rattle.plans.specs.Plans.{MarkedIn}
 use Rattle.plans.proofs.Finding.{marked-in-none, marked-in-more, marked-in-end}
 use Rattle.plans.proofs.wake_by.Goals as goal
 

@@ -1,9 +1,7 @@
 -- `plans::wake_by` meets its contract. The loop's invariant: the record is marked in the sets of the bytes below `c`.
 -- Assumes nothing.
 use Prim.Native.Nat.{◌≤◌, ◌-◌}
-use native.Mathlib.Omega.{arith}
 use Rattle.plans.specs.Plans.{MarkedIn}
-use Rattle.plans.proofs.Finding.{marked-in-none, marked-in-more, marked-in-end}
 use Rattle.plans.proofs.wake_by.Given as goal
 
 abbrev pub invariant-loop-c : goal.invariant-loop-c

@@ -1,7 +1,6 @@
 -- `plans::wake_parent_of` meets its contract: the bytes of both ranges are marked. Assumes nothing.
 use native.Mathlib.Omega.{arith}
 use mathlib.Core.Path.{◌∙◌}
-use borrow.Author.Rules.{rules}
 use Rattle.plans.proofs.Finding.{ranges-wake}
 use Rattle.plans.proofs.wake_parent_of.Goals as goal
 
