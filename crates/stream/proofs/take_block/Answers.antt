@@ -55,16 +55,16 @@ pub shape_of-out-then-end-block : goal.shape_of-out-then-end-block
 shape_of-out-then-end-block c = taking-length c.loop-at.invariant.0
 
 pub returns-then-end-block : goal.returns-then-end-block
-returns-then-end-block c = record { kept = c.keep-held.ensures.few; took = taking-took (taking-passed c.loop-at.invariant.0 c.line_end-end.ensures c.keep-held.ensures c.keep-held.auto.0) (λ h. absurd (omega arith)) }
+returns-then-end-block c = record { kept = c.keep-held.ensures.few; took = taking-took (taking-passed c.loop-at.invariant.0 c.line_end-end.ensures c.keep-held.ensures c.keep-held.auto.line) (λ h. absurd (omega arith)) }
 
 pub line_number-number-requires : goal.line_number-number-requires
 line_number-number-requires c = omega (arith, taking-few c.loop-at.invariant.0, c.requires.numbers, c.loop-at-test.true)
 
 pub slice_bounds-end_line-end : goal.slice_bounds-end_line-end
-slice_bounds-end_line-end c = omega (arith, c.keep-held.ensures.few, c.keep-held.auto.0, c.loop-at.invariant.0.line_size)
+slice_bounds-end_line-end c = omega (arith, c.keep-held.ensures.few, c.keep-held.auto.line, c.loop-at.invariant.0.line_size)
 
 pub slice_bounds-end_line-end-in-loop-at : goal.slice_bounds-end_line-end-in-loop-at
-slice_bounds-end_line-end-in-loop-at c = sym (length-take-le _ _ (omega (arith, c.keep-held.ensures.few, c.keep-held.auto.0, c.loop-at.invariant.0.line_size)))
+slice_bounds-end_line-end-in-loop-at c = sym (length-take-le _ _ (omega (arith, c.keep-held.ensures.few, c.keep-held.auto.line, c.loop-at.invariant.0.line_size)))
 
 pub end_line-written-requires : goal.end_line-written-requires
 end_line-written-requires c = record { buffers = c.loop-at.invariant.1; room = omega (arith, c.if-out-written-lt32768.false, c.loop-at.invariant.0.room) }
@@ -79,7 +79,7 @@ pub loop-at-smaller : goal.loop-at-smaller
 loop-at-smaller c = omega (arith, c.line_end-end.ensures.inside, c.line_end-end.ensures.behind, c.loop-at-test.true)
 
 pub loop-at-preserved : goal.loop-at-preserved
-loop-at-preserved c = (taking-ended (taking-passed c.loop-at.invariant.0 c.line_end-end.ensures c.keep-held.ensures c.keep-held.auto.0) c.line_end-end.ensures (omega (arith, c.line_end-end.ensures.inside, c.if-end-block.false)) c.line_number-number.ensures c.end_line-written.ensures.report (omega (arith, c.end_line-written.ensures.bound, c.if-out-written-lt32768.false, c.loop-at.invariant.0.room, c.end_line-written.auto.1.1.1.1.1.1.0)), record { size_of_work = c.end_line-written.auto.1.1.1.0 ∙ c.loop-at.invariant.1.size_of_work; reading_size = c.end_line-written.auto.1.1.1.1.0 ∙ c.loop-at.invariant.1.reading_size; tokens_size = c.end_line-written.auto.1.1.1.1.1.0 ∙ c.loop-at.invariant.1.tokens_size })
+loop-at-preserved c = (taking-ended (taking-passed c.loop-at.invariant.0 c.line_end-end.ensures c.keep-held.ensures c.keep-held.auto.line) c.line_end-end.ensures (omega (arith, c.line_end-end.ensures.inside, c.if-end-block.false)) c.line_number-number.ensures c.end_line-written.ensures.report (omega (arith, c.end_line-written.ensures.bound, c.if-out-written-lt32768.false, c.loop-at.invariant.0.room, c.end_line-written.auto.out)), record { size_of_work = c.end_line-written.auto.work ∙ c.loop-at.invariant.1.size_of_work; reading_size = c.end_line-written.auto.reading ∙ c.loop-at.invariant.1.reading_size; tokens_size = c.end_line-written.auto.tokens ∙ c.loop-at.invariant.1.tokens_size })
 
 pub shape_of-line : goal.shape_of-line
 shape_of-line c = c.loop-at.invariant.0.line_size ∙ sym c.requires.line

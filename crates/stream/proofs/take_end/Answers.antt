@@ -5,7 +5,13 @@ use borrow.Author.Rules.{rules}
 use Rattle.stream.proofs.take_end.Goals as goal
 
 pub returns-then-line-eq0 : goal.returns-then-line-eq0
-returns-then-line-eq0 c = let x = (omega arith, last_none c.args.table.now c.args.line.now c.args.ended c.args.out.now c.if-line-eq0.true) in record { bound = x.0; size = x.1.0; buffer = x.1.1 }
+returns-then-line-eq0 c =
+    let x = last_none c.args.table.now c.args.line.now c.args.ended c.args.out.now c.if-line-eq0.true in
+    record { bound = omega arith; size = x.0; buffer = x.1 }
 
 pub returns : goal.returns
-returns c = let x = (omega (arith, c.end_line.ensures.bound), last_some c.args.table.now c.args.line.now c.args.ended c.if-line-eq0.false c.line_number-number.ensures c.end_line.ensures.report (omega (arith, c.end_line.ensures.bound, (c.requires.buffers, (c.requires.room, c.requires.number))))) in record { bound = x.0; size = x.1.0; buffer = x.1.1 }
+returns c =
+    let x =
+    last_some c.args.table.now c.args.line.now c.args.ended c.if-line-eq0.false c.line_number-number.ensures c.end_line.ensures.report
+    (omega (arith, c.end_line.ensures.bound, c.requires.room)) in
+    record { bound = omega (arith, c.end_line.ensures.bound); size = x.0; buffer = x.1 }
