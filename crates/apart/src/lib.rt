@@ -1,6 +1,8 @@
 // Whether the alternatives of an Or record are seen to share no line: by the bytes with which their lines start, and by those with which they
 // end.
 
+#![tactic(auto)]
+
 ghost use Rattle.std.specs.Prelude.{◌<◌, ◌≡◌};
 ghost use Rattle.table.specs.Records.{count};
 ghost use Rattle.table.specs.Faults.{Passes};

@@ -1,5 +1,7 @@
 // Rules over the lines of a page: each line is read by one table, and the classes of the lines by another.
 
+#![tactic(auto)]
+
 ghost use Rattle.std.specs.Prelude.{◌+◌, ◌*◌, ◌≤◌, ◌<◌, ◌≡◌, true, List, [], ◌++◌, length, take};
 ghost use Rattle.tokens.specs.Tokens.{Token, cons_if, token_bytes, nth_token, text_at};
 ghost use Rattle.matcher.specs.Calls.{read_says, read_leaves};
