@@ -185,9 +185,7 @@ pub extern "C" fn trace_live_add(line: &mut LiveLine, byte: u8, work: &mut [u8])
     ensures line { line.new ≡ add_leaves line.old byte (length work.old) }
     ensures work { is_refused (add_says line.old byte (length work.old)) ≡ true → work.new ≡ work.old }
 {
-    let step = LiveLine::added(*line, byte, work);
-    *line = step.line;
-    heard_number(step.answer)
+    heard_number(line.add(byte, work))
 }
 
 // Take back.
@@ -197,9 +195,7 @@ pub extern "C" fn trace_live_take_back(line: &mut LiveLine, work: &mut [u8]) -> 
     ensures line { line.new ≡ take_back_leaves line.old (length work.old) }
     ensures work { is_refused (take_back_says line.old (length work.old)) ≡ true → work.new ≡ work.old }
 {
-    let step = LiveLine::taken_back(*line, work);
-    *line = step.line;
-    heard_number(step.answer)
+    heard_number(line.take_back(work))
 }
 
 // A page.
