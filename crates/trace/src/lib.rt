@@ -1,4 +1,5 @@
 // The calls for C: numbers, byte slices, pairs of names and live lines in, one 64-bit number out.
+#![tactic(auto)]
 
 ghost use Rattle.std.specs.Prelude.{◌≤◌, ◌≡◌, true, length};
 ghost use Rattle.table.specs.Answers.{says, number, is_refused};

@@ -1,7 +1,6 @@
 -- `heard_number` meets its contract. Assumes nothing.
 use mathlib.Core.Path.{sym, ◌∙◌, ap}
 use native.Mathlib.Omega.{arith}
-use borrow.Author.Rules.{rules}
 use Rattle.table.specs.Answers.{number}
 use Rattle.live.specs.declared.Heard.{Heard}
 use Rattle.live.specs.Calls.{heard_says}

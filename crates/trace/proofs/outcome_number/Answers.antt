@@ -1,7 +1,6 @@
 -- `outcome_number` meets its contract. Assumes nothing.
 use mathlib.Core.Path.{refl, ap}
 use native.Mathlib.Omega.{arith}
-use borrow.Author.Rules.{rules}
 use Rattle.table.specs.Answers.{gives, refusal}
 use Rattle.page.specs.Outcomes.{the_page, line_rules, page_rules, outcome_says}
 use Rattle.trace.proofs.Paging.{told-small, told-low, told-number, told-page, line_small, line-number}

@@ -1,7 +1,6 @@
 -- `trace_apart` meets its contract. Assumes nothing.
 use native.Mathlib.Omega.{arith}
 use mathlib.Core.Path.{sym, ◌∙◌, ap}
-use borrow.Author.Rules.{rules}
 use Rattle.table.specs.Answers.{gives, number}
 use Rattle.trace.proofs.Numbers.{same_number}
 use Rattle.trace.proofs.Bounds.{small-apart, said-small}

@@ -1,6 +1,5 @@
 -- `trace_check` meets its contract. Assumes nothing.
 use mathlib.Core.Path.{◌∙◌, ap}
-use borrow.Author.Rules.{rules}
 use Rattle.table.specs.Answers.{number}
 use Rattle.trace.proofs.Bounds.{small-checked, said-small}
 use Rattle.trace.proofs.trace_check.Goals as goal

@@ -1,6 +1,5 @@
 -- `trace_page` meets its contract. Assumes nothing.
 use mathlib.Core.Path.{sym, ◌∙◌, ap, subst}
-use borrow.Author.Rules.{rules}
 use lib.ListN.{length}
 use Rattle.page.specs.Outcomes.{PageSaid, page_number}
 use Rattle.trace.specs.Numbers.{SmallPage}

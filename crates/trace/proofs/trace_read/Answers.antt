@@ -1,6 +1,5 @@
 -- `trace_read` meets its contract. Assumes nothing.
 use mathlib.Core.Path.{◌∙◌, ap}
-use borrow.Author.Rules.{rules}
 use Rattle.table.specs.Answers.{number}
 use Rattle.trace.proofs.Bounds.{small-read, said-small}
 use Rattle.trace.proofs.Numbered.{read-numbered}
@@ -10,5 +9,10 @@ pub number_of-requires : goal.number_of-requires
 number_of-requires c = said-small _ c.read.ensures.answer (small-read _ _ _ _ _)
 
 pub returns : goal.returns
-returns c = record { answer = c.number_of.ensures ∙ ap number c.read.ensures.answer; buffer = c.read.ensures.buffer; work = c.read.ensures.work; rivals = λ h. read-numbered c.number_of.ensures (said-small _ c.read.ensures.answer (small-read _ _ _ _ _))
-          (c.read.ensures.rivals h) }
+returns c = record {
+  answer = c.number_of.ensures ∙ ap number c.read.ensures.answer;
+  buffer = c.read.ensures.buffer;
+  work = c.read.ensures.work;
+  rivals = λ h. read-numbered c.number_of.ensures (said-small _ c.read.ensures.answer (small-read _ _ _ _ _))
+      (c.read.ensures.rivals h);
+}

@@ -1,6 +1,5 @@
 -- `trace_spell` meets its contract. Assumes nothing.
 use mathlib.Core.Path.{◌∙◌, ap}
-use borrow.Author.Rules.{rules}
 use Rattle.table.specs.Answers.{number}
 use Rattle.trace.proofs.Bounds.{small-spell, said-small}
 use Rattle.trace.proofs.trace_spell.Goals as goal

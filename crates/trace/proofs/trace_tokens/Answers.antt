@@ -1,6 +1,5 @@
 -- `trace_tokens` meets its contract. Assumes nothing.
 use mathlib.Core.Path.{◌∙◌, ap}
-use borrow.Author.Rules.{rules}
 use Rattle.table.specs.Answers.{number}
 use Rattle.trace.proofs.Bounds.{small-tokens, said-small}
 use Rattle.trace.proofs.trace_tokens.Goals as goal

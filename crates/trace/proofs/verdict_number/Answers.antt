@@ -1,6 +1,5 @@
 -- `verdict_number` meets its contract. Assumes nothing.
 use mathlib.Core.Path.{sym, ◌∙◌, ap, subst}
-use borrow.Author.Rules.{rules}
 use Rattle.table.specs.Answers.{number}
 use Rattle.order.specs.declared.Verdict.{Verdict}
 use Rattle.order.specs.Verdicts.{verdict_says}

@@ -1,12 +1,10 @@
 -- `tracecut::print_block` meets its contract. Assumes nothing.
-use Prim.Native.Nat.{◌+◌, ◌-◌, ◌≤◌}
-use mathlib.Core.Path.{◌≡◌, sym, ◌∙◌}
+use mathlib.Core.Path.{sym, ◌∙◌}
 use native.Mathlib.Omega.{arith}
 use borrow.Author.Rules.{rules}
-use lib.ListN.{length}
 use lib.Seq.{length-take-le}
 use Rattle.stream.proofs.Whole.{took-within}
-use Rattle.tracecut.proofs.Moving.{Ready, ready_moved, Onward, onward, rest-few}
+use Rattle.tracecut.proofs.Moving.{ready_moved, Onward, onward, rest-few}
 use Rattle.tracecut.proofs.print_block.Goals as goal
 
 pub loop-at-init : goal.loop-at-init

@@ -1,12 +1,11 @@
 -- `tracecut::run` meets its contract. Assumes nothing.
-use mathlib.Core.Path.{◌≡◌, sym, ◌∙◌, ap}
+use mathlib.Core.Path.{sym, ◌∙◌, ap}
 use Rattle.stream.specs.declared.Progress.{Progress}
-use Prim.Native.Nat.{ℕ, ◌+◌, ◌≤◌}
+use Prim.Native.Nat.{ℕ}
 use native.Mathlib.Omega.{arith}
-use borrow.Author.Rules.{rules}
-use lib.ListN.{length, length-replicate}
+use lib.ListN.{length-replicate}
 use lib.Seq.{length-take-le}
-use Rattle.tracecut.proofs.Moving.{Ready, ready_moved}
+use Rattle.tracecut.proofs.Moving.{ready_moved}
 use Rattle.tracecut.proofs.run.Goals as goal
 
 pub loop-left-init : goal.loop-left-init
