@@ -217,12 +217,12 @@ pub extern "C" fn trace_page(
         ≡ page_number
         (page_says (record { table = linetable.now; start = linestart }) (record { table = pagetable.now; start = pagestart })
         page.now
-        (record { work = length work.entry.now; reading = length reading.old; first = length first.old; second = length second.old })
+        (record { work = length work.old; reading = length reading.old; first = length first.old; second = length second.old })
         (length out.old)) }
     ensures buffer { out.new
         ≡ page_leaves (record { table = linetable.now; start = linestart }) (record { table = pagetable.now; start = pagestart })
         page.now
-        (record { work = length work.entry.now; reading = length reading.old; first = length first.old; second = length second.old })
+        (record { work = length work.old; reading = length reading.old; first = length first.old; second = length second.old })
         out.old }
     ensures scratch { keeps_scratch (record { table = linetable.now; start = linestart }) (record { table = pagetable.now; start = pagestart })
         page.now ≡ true
@@ -230,10 +230,10 @@ pub extern "C" fn trace_page(
         × (second.new ≡ second.old) }
     ensures rivals { PageTaken (record { table = linetable.now; start = linestart }) (record { table = pagetable.now; start = pagestart })
         page.now
-        (record { work = length work.entry.now; reading = length reading.old; first = length first.old; second = length second.old })
+        (record { work = length work.old; reading = length reading.old; first = length first.old; second = length second.old })
         → Bytes linetable.now
         → work_size (count pagetable.now) (length (classes_of (record { table = linetable.now; start = linestart }) page.now))
-        ≤ length work.entry.now
+        ≤ length work.old
         → NoneOutranks (λ x. result ≡ number x) pagetable.now pagestart
         (classes_of (record { table = linetable.now; start = linestart }) page.now) out.old out.new }
 {
