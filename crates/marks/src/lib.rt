@@ -1,4 +1,5 @@
 // Sets of numbers as bits in words of 64.
+#![tactic(auto)]
 
 ghost use Rattle.std.specs.Prelude.{◌+◌, ◌-◌, ◌*◌, ◌≤◌, ◌<◌, ◌≡◌, length};
 ghost use Rattle.marks.specs.Marks.{marked, MarkedAll, MarkedToo, FromWord, NextMarked, Copied};

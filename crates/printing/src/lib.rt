@@ -1,4 +1,5 @@
 // Bytes, texts and numbers written one after the other into a buffer: each function takes a position and returns the next one.
+#![tactic(auto)]
 
 ghost use Rattle.std.specs.Prelude.{◌+◌, ◌≤◌, ◌<◌, [], ◌∷◌, length};
 ghost use Rattle.printing.specs.Decimal.{decimal};

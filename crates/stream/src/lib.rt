@@ -1,4 +1,5 @@
 // What the program prints for an input that comes in blocks.
+#![tactic(auto)]
 
 ghost use Rattle.std.specs.Prelude.{◌+◌, ◌≤◌, ◌<◌, ◌≡◌, ◌++◌, length, take, drop};
 ghost use Rattle.report.specs.Report.{line_report};

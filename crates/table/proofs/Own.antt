@@ -23,10 +23,6 @@ or-both x y e f = rw (e, f)
 either : (n kind : ℕ) → n ≤ kind → kind < n + 2 → (kind ≡ n) ⊎ (kind ≡ n + 1)
 either n kind l m = ⊎_elim (λ (e : n ≡ kind). inl (omega arith)) (λ (q : n < kind). inr (omega arith)) (eq-or-lt_of_le l)
 
--- a kind is none of two
-pub neither : {m n kind : ℕ} → ((kind ≡ m) ⊎ (kind ≡ n) → ⊥) → ¬ (kind ≡ m) × ¬ (kind ≡ n)
-neither h = (λ e. h (inl e), λ e. h (inr e))
-
 -- kind, a and b are record k's bytes
 pub record Bytes (t : List ℕ) (k kind a b : ℕ) : Type 0 where
   pub kind_is : kind ≡ kind_at t k

@@ -3,7 +3,7 @@
 use Prim.Native.Nat.{ℕ, suc, ◌+◌, ◌-◌, ◌%◌, ◌≤◌, ◌<◌}
 use native.Mathlib.Omega.{arith}
 use native.Mathlib.Numerals.{add-one}
-use mathlib.Core.Path.{◌≡◌, sym, ◌∙◌}
+use mathlib.Core.Path.{◌≡◌, sym, ap, ◌∙◌}
 use mathlib.Core.Bool.{Bool, true, false, not}
 use mathlib.Core.List.{List}
 use lib.Dec.{ltb, eqb}
@@ -36,13 +36,13 @@ module _ (t : List ℕ) where
   pub over-refused : 1020 < length t → refuses 1 0 ≡ checked t
   over-refused l = size-refused (or_true_right (eqb (length t) 0) _ (or-true-left (ltb 1020 (length t)) _ (lt-ltb 1020 (length t) l)))
 
-  pub part-refused : not (eqb (length t % 4) 0) ≡ true → refuses 1 0 ≡ checked t
-  part-refused e = size-refused (or_true_right (eqb (length t) 0) _ (or_true_right (ltb 1020 (length t)) _ e))
+  pub part-refused : (length t % 4 ≡ 0 → ⊥) → refuses 1 0 ≡ checked t
+  part-refused n = size-refused (or_true_right (eqb (length t) 0) _ (or_true_right (ltb 1020 (length t)) _ (ap not (ne_eqb _ 0 n))))
 
   no-marks : Marks t 0 (replicate 256 0)
   no-marks = record { long = length-replicate {A = ℕ} 256 0; right = λ c l. rw (get_or-replicate {A = ℕ} 256 c 0 0 l) }
 
-  pub scan-start : (length t ≡ 0 → ⊥) → length t ≤ 1020 → not (eqb (length t % 4) 0) ≡ false → Scanning t 0 (replicate 256 0)
+  pub scan-start : (length t ≡ 0 → ⊥) → length t ≤ 1020 → length t % 4 ≡ 0 → Scanning t 0 (replicate 256 0)
   scan-start some small whole =
       let e : bad_size t ≡ false = rw (ne_eqb (length t) 0 some, le-ltb 1020 (length t) small, whole) in
       let all : count t - 0 ≡ count t = omega arith in

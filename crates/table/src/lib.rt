@@ -1,4 +1,5 @@
 // The rule table of document 01: Check, and the answers of every call.
+#![tactic(auto)]
 
 ghost use Rattle.std.specs.Prelude.{◌+◌, ◌*◌, ◌<◌, suc, ◌≡◌, length, set};
 ghost use Rattle.std.proofs.lemmas.List.Edits.{sets};

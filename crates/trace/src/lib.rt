@@ -1,4 +1,5 @@
 // The calls for C: numbers, byte slices, pairs of names and live lines in, one 64-bit number out.
+#![tactic(auto)]
 
 ghost use Rattle.std.specs.Prelude.{◌≤◌, ◌≡◌, true, length};
 ghost use Rattle.table.specs.Answers.{says, number, is_refused};
@@ -185,9 +186,7 @@ pub extern "C" fn trace_live_add(line: &mut LiveLine, byte: u8, work: &mut [u8])
     ensures line { line.new ≡ add_leaves line.old byte (length work.old) }
     ensures work { is_refused (add_says line.old byte (length work.old)) ≡ true → work.new ≡ work.old }
 {
-    let step = LiveLine::added(*line, byte, work);
-    *line = step.line;
-    heard_number(step.answer)
+    heard_number(line.add(byte, work))
 }
 
 // Take back.
@@ -197,9 +196,7 @@ pub extern "C" fn trace_live_take_back(line: &mut LiveLine, work: &mut [u8]) -> 
     ensures line { line.new ≡ take_back_leaves line.old (length work.old) }
     ensures work { is_refused (take_back_says line.old (length work.old)) ≡ true → work.new ≡ work.old }
 {
-    let step = LiveLine::taken_back(*line, work);
-    *line = step.line;
-    heard_number(step.answer)
+    heard_number(line.take_back(work))
 }
 
 // A page.
@@ -220,12 +217,12 @@ pub extern "C" fn trace_page(
         ≡ page_number
         (page_says (record { table = linetable.now; start = linestart }) (record { table = pagetable.now; start = pagestart })
         page.now
-        (record { work = length work.entry.now; reading = length reading.old; first = length first.old; second = length second.old })
+        (record { work = length work.old; reading = length reading.old; first = length first.old; second = length second.old })
         (length out.old)) }
     ensures buffer { out.new
         ≡ page_leaves (record { table = linetable.now; start = linestart }) (record { table = pagetable.now; start = pagestart })
         page.now
-        (record { work = length work.entry.now; reading = length reading.old; first = length first.old; second = length second.old })
+        (record { work = length work.old; reading = length reading.old; first = length first.old; second = length second.old })
         out.old }
     ensures scratch { keeps_scratch (record { table = linetable.now; start = linestart }) (record { table = pagetable.now; start = pagestart })
         page.now ≡ true
@@ -233,10 +230,10 @@ pub extern "C" fn trace_page(
         × (second.new ≡ second.old) }
     ensures rivals { PageTaken (record { table = linetable.now; start = linestart }) (record { table = pagetable.now; start = pagestart })
         page.now
-        (record { work = length work.entry.now; reading = length reading.old; first = length first.old; second = length second.old })
+        (record { work = length work.old; reading = length reading.old; first = length first.old; second = length second.old })
         → Bytes linetable.now
         → work_size (count pagetable.now) (length (classes_of (record { table = linetable.now; start = linestart }) page.now))
-        ≤ length work.entry.now
+        ≤ length work.old
         → NoneOutranks (λ x. result ≡ number x) pagetable.now pagestart
         (classes_of (record { table = linetable.now; start = linestart }) page.now) out.old out.new }
 {

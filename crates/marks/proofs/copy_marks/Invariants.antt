@@ -1,9 +1,8 @@
 -- `marks::copy_marks` meets its contract. The loop's invariant: the words up to `i` are copied.
 -- Assumes nothing.
 use Prim.Native.Nat.{◌≤◌, ◌-◌}
-use native.Mathlib.Omega.{arith}
 use lib.ListN.{length}
-use Rattle.marks.proofs.Laws.{CopiedTo, copied_none, copied_more, copied_all}
+use Rattle.marks.proofs.Laws.{CopiedTo}
 use Rattle.marks.proofs.copy_marks.Given as goal
 
 abbrev pub invariant-loop-i : goal.invariant-loop-i

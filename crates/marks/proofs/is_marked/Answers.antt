@@ -1,6 +1,5 @@
 -- `marks::is_marked` meets its contract: a mark is a bit that is 1.
 -- Assumes nothing.
-use borrow.Author.Rules.{rules}
 use Rattle.marks.proofs.Laws.{bit_is}
 use Rattle.marks.proofs.is_marked.Goals as goal
 

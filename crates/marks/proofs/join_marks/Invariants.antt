@@ -1,9 +1,8 @@
 -- `marks::join_marks` meets its contract. The loop's invariant: the words up to `i` are joined.
 -- Assumes nothing.
 use Prim.Native.Nat.{◌≤◌, ◌-◌}
-use native.Mathlib.Omega.{arith}
 use lib.ListN.{length}
-use Rattle.marks.proofs.Laws.{JoinedTo, joined-none, joined-more, joined-all}
+use Rattle.marks.proofs.Laws.{JoinedTo}
 use Rattle.marks.proofs.join_marks.Given as goal
 
 abbrev pub invariant-loop-i : goal.invariant-loop-i

@@ -1,6 +1,5 @@
 -- `marks::mark` meets its contract, by the law of the bit that is set.
 -- Assumes nothing.
-use borrow.Author.Rules.{rules}
 use Rattle.marks.proofs.Laws.{marked-too}
 use Rattle.marks.proofs.mark.Goals as goal
 

@@ -1,31 +1,15 @@
 -- `marks::next_marked` meets its contract. The loop's invariant: no number from `from` up to word `i` is marked.
 -- Assumes nothing.
-use Prim.Native.Nat.{◌-◌, ◌*◌, ◌/◌, ◌%◌, ◌^◌, ◌≤◌, ◌<◌}
+use Prim.Native.Nat.{◌*◌, ◌/◌, ◌^◌, ◌<◌}
 use native.Mathlib.Omega.{arith}
-use lib.Count.{trailing_le}
-use lib.ListN.{length, get_or}
-use Rattle.marks.proofs.Laws.{Passed, passed_on, rest-passed, lowest-passed, word-passed, word-lowest, next-lesser, next-end}
+use lib.ListN.{get_or}
+use Rattle.marks.proofs.Laws.{passed_on, rest-passed, lowest-passed, word-passed, word-lowest, next-lesser, next-end}
 use Rattle.marks.proofs.next_marked.Goals as goal
-
-pub returns-then-from-end : goal.returns-then-from-end
-returns-then-from-end c =
-    let a = c.args in
-    next-end a.words.now a.from a.end a.from (omega arith) (omega arith) (λ j l h. absurd (omega arith))
-
-pub overflow_cast-word : goal.overflow_cast-word
-overflow_cast-word c =
-    let a = c.args in
-    omega (arith, trailing_le 64 (get_or a.words.now (a.from / 64) 0 / 2 ^ (a.from % 64)))
-
-pub overflow_add-from : goal.overflow_add-from
-overflow_add-from c =
-    let a = c.args in
-    omega (arith, trailing_le 64 (get_or a.words.now (a.from / 64) 0 / 2 ^ (a.from % 64)))
 
 pub returns-then-word-ne0 : goal.returns-then-word-ne0
 returns-then-word-ne0 c =
     let fits : get_or c.args.words.now (c.args.from / 64) 0 < 2 ^ 64 =
-    omega (arith, c.shared_slice_known-2-1.given (c.args.from / 64)) in
+    omega (arith, c.type_inv.words (c.args.from / 64)) in
     next-lesser c.args.words.now c.args.from c.args.end _ _ (omega arith) c.requires.from_le_end
     (lowest-passed c.args.words.now c.args.from fits c.if-word-ne0.true)
     c.lesser.ensures
@@ -34,16 +18,6 @@ pub loop-i-init : goal.loop-i-init
 loop-i-init c =
     let a = c.args in
     (omega arith, omega arith, rest-passed a.words.now a.from c.if-word-ne0.false)
-
-pub overflow_cast-words : goal.overflow_cast-words
-overflow_cast-words c =
-    let a = c.args in
-    omega (arith, trailing_le 64 (get_or a.words.now c.loop-i.i 0))
-
-pub overflow_add-i-then-words-i-ne0 : goal.overflow_add-i-then-words-i-ne0
-overflow_add-i-then-words-i-ne0 c =
-    let a = c.args in
-    omega (arith, trailing_le 64 (get_or a.words.now c.loop-i.i 0))
 
 pub returns-then-words-i-ne0 : goal.returns-then-words-i-ne0
 returns-then-words-i-ne0 c =

@@ -1,10 +1,8 @@
 -- `marks::next_marked` meets its contract. The loop's invariant: no number from `from` up to word `i` is marked.
 -- Assumes nothing.
-use Prim.Native.Nat.{◌-◌, ◌*◌, ◌/◌, ◌%◌, ◌^◌, ◌≤◌, ◌<◌}
-use native.Mathlib.Omega.{arith}
-use lib.Count.{trailing_le}
-use lib.ListN.{length, get_or}
-use Rattle.marks.proofs.Laws.{Passed, passed_on, rest-passed, lowest-passed, word-passed, word-lowest, next-lesser, next-end}
+use Prim.Native.Nat.{◌-◌, ◌*◌, ◌≤◌, ◌<◌}
+use lib.ListN.{length}
+use Rattle.marks.proofs.Laws.{Passed}
 use Rattle.marks.proofs.next_marked.Given as goal
 
 abbrev pub invariant-loop-i : goal.invariant-loop-i

@@ -1,9 +1,6 @@
 -- `printing::put_text` meets its contract. The loop's invariant: the first i bytes of the text are written; the measure is what is left of it. Assumes nothing.
-use Prim.Native.Nat.{◌+◌, ◌-◌, ◌≤◌}
 use native.Mathlib.Omega.{arith}
 use mathlib.Core.Path.{refl}
-use lib.ListN.{length, take}
-use Rattle.printing.specs.Writes.{Wrote}
 use Rattle.printing.proofs.Writes.{wrote-length, wrote-more, wrote-all, wrote-start}
 use Rattle.printing.proofs.put_text.Goals as goal
 

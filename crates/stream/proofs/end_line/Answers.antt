@@ -2,7 +2,6 @@
 use Rattle.report.specs.Report.{line_report}
 use native.Mathlib.Omega.{arith}
 use Rattle.stream.proofs.Taking.{wrote-part}
-use borrow.Author.Rules.{rules}
 use Rattle.stream.proofs.end_line.Goals as goal
 
 pub returns : goal.returns

@@ -1,12 +1,8 @@
 -- `stream::take_block` meets its contract: one law of Taking for each step and each way out. The measure is what is left of the block. Assumes nothing.
 use Prim.Native.Nat.{◌-◌}
-use native.Mathlib.Omega.{arith}
-use mathlib.Core.Path.{sym, ◌∙◌}
-use borrow.Author.Rules.{rules}
 use lib.ListN.{length, take}
-use lib.Seq.{length-take-le}
 use Rattle.stream.specs.Buffers.{Buffers}
-use Rattle.stream.proofs.Taking.{Taking, taking-none, taking-length, taking-few, taking-passed, taking-ended, taking-took}
+use Rattle.stream.proofs.Taking.{Taking}
 use Rattle.stream.proofs.take_block.Given as goal
 
 abbrev pub invariant-loop-at : goal.invariant-loop-at

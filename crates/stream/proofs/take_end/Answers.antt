@@ -1,7 +1,6 @@
 -- `stream::take_end` meets its contract: no line is left, or the last one is reported. Assumes nothing.
 use native.Mathlib.Omega.{arith}
 use Rattle.stream.proofs.Taking.{last_none, last_some}
-use borrow.Author.Rules.{rules}
 use Rattle.stream.proofs.take_end.Goals as goal
 
 pub returns-then-line-eq0 : goal.returns-then-line-eq0

@@ -1,41 +1,36 @@
 -- `table::check` meets its contract. The loop's invariant is Scan's: the records below k have no fault, and the marks are theirs; the measure is the
 -- number of records left. Assumes nothing.
-use Prim.Native.Nat.{◌-◌}
 use native.Mathlib.Omega.{arith}
-use mathlib.Core.Logic.{⊎_elim}
-use borrow.Author.Tests.{ltb-true, ltb-false}
-use Rattle.table.proofs.Scan.{Scanning, none-refused, over-refused, part-refused, scan-start, scan-end, Tested, scan-own, own-refused, named-refused, scan-next}
+use Rattle.table.proofs.Scan.{none-refused, over-refused, part-refused, scan-start, scan-end, scan-own, own-refused, named-refused, scan-next}
 use Rattle.table.proofs.check.Goals as goal
 use Rattle.table.proofs.check.Goals.{then-size-eq0-via-then-size-eq0, then-size-eq0-via-else-size-eq0+then-size-gt1020, then-size-eq0-via-else-size-eq0+else-size-gt1020+then-size-ne0}
 
 pub returns-then-size-eq0 : goal.returns-then-size-eq0
 returns-then-size-eq0 c =
     elim c.then-size-eq0.branch [
-      then-size-eq0-via-then-size-eq0 w ↦ record { answer = none-refused c.args.table.now w.if-size-eq0.true }
-      | then-size-eq0-via-else-size-eq0+then-size-gt1020 w ↦ record { answer = over-refused c.args.table.now (omega (arith, ltb-true)) }
-      | then-size-eq0-via-else-size-eq0+else-size-gt1020+then-size-ne0 w ↦ record { answer = part-refused c.args.table.now w.if-size-ne0.true-raw }
+      | then-size-eq0-via-then-size-eq0 w ↦ record { answer = none-refused c.args.table.now w.if-size-eq0.true }
+      | then-size-eq0-via-else-size-eq0+then-size-gt1020 w ↦ record { answer = over-refused c.args.table.now (omega arith) }
+      | then-size-eq0-via-else-size-eq0+else-size-gt1020+then-size-ne0 w ↦ record { answer = part-refused c.args.table.now w.if-size-ne0.true }
     ]
 
 pub loop-k-init : goal.loop-k-init
-loop-k-init c = scan-start c.args.table.now c.if-size-eq0.false (omega (arith, ltb-false)) c.if-size-ne0.false-raw
-
-pub enum_known-own : goal.enum_known-own
-enum_known-own c = c.in-Refused.in-Refused-own.keys1
+loop-k-init c = scan-start c.args.table.now c.if-size-eq0.false (omega arith) c.if-size-ne0.false
 
 pub returns-in-Refused : goal.returns-in-Refused
-returns-in-Refused c = record { answer = own-refused ((scan-own _ _ _ _ c.loop-k.invariant c.loop-k-test.true c.own_fault-own.ensures)) _ c.in-Refused.is }
-
-pub enum_told-1 : goal.enum_told-1
-enum_told-1 c = c.in_default.in_default-own.keys2
-
-pub name_children-requires : goal.name_children-requires
-name_children-requires c = record { inside = omega arith; right = c.loop-k.invariant.marked }
+returns-in-Refused c =
+    record { answer = own-refused (scan-own _ _ _ _ c.loop-k.invariant c.loop-k-test.true c.own_fault-own.ensures) _ c.in-Refused.is }
 
 pub returns-then-name_children : goal.returns-then-name_children
-returns-then-name_children c = record { answer = named-refused ((scan-own _ _ _ _ c.loop-k.invariant c.loop-k-test.true c.own_fault-own.ensures)) _ c.in_default.is _ c.name_children.ensures.again c.if-name_children.true }
+returns-then-name_children c =
+    record {
+      answer = named-refused (scan-own _ _ _ _ c.loop-k.invariant c.loop-k-test.true c.own_fault-own.ensures) _ c.in_default.is _
+          c.name_children.ensures.again c.if-name_children.true;
+    }
 
 pub loop-k-preserved : goal.loop-k-preserved
-loop-k-preserved c = scan-next ((scan-own _ _ _ _ c.loop-k.invariant c.loop-k-test.true c.own_fault-own.ensures)) _ c.in_default.is _ c.name_children.ensures.again c.if-name_children.false _
+loop-k-preserved c =
+    scan-next (scan-own _ _ _ _ c.loop-k.invariant c.loop-k-test.true c.own_fault-own.ensures) _ c.in_default.is _
+    c.name_children.ensures.again c.if-name_children.false _
     c.name_children.ensures.right
 
 pub returns : goal.returns

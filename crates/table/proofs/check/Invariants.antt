@@ -1,10 +1,7 @@
 -- `table::check` meets its contract. The loop's invariant is Scan's: the records below k have no fault, and the marks are theirs; the measure is the
 -- number of records left. Assumes nothing.
 use Prim.Native.Nat.{◌-◌}
-use native.Mathlib.Omega.{arith}
-use mathlib.Core.Logic.{⊎_elim}
-use borrow.Author.Tests.{ltb-true, ltb-false}
-use Rattle.table.proofs.Scan.{Scanning, none-refused, over-refused, part-refused, scan-start, scan-end, Tested, scan-own, own-refused, named-refused, scan-next}
+use Rattle.table.proofs.Scan.{Scanning}
 use Rattle.table.proofs.check.Given as goal
 
 abbrev pub invariant-loop-k : goal.invariant-loop-k

@@ -1,14 +1,7 @@
 -- `table::name_children` meets its contract: one law of Naming for each way out. Assumes nothing.
 use mathlib.Core.Logic.{inl, inr, ⊎_elim}
-use borrow.Author.Tests.{eqb-true, eqb-false}
 use Rattle.table.proofs.Naming.{star-named, two-named, none_named}
 use Rattle.table.proofs.name_children.Goals as goal
-
-pub kind_at-kind-requires : goal.kind_at-kind-requires
-kind_at-kind-requires c = c.requires.inside
-
-pub a_at-a-requires : goal.a_at-a-requires
-a_at-a-requires c = c.requires.inside
 
 pub returns-then-kind-eq-STAR : goal.returns-then-kind-eq-STAR
 returns-then-kind-eq-STAR c = let x = star-named c.args.table.now _ _ _ c.kind_at-kind.ensures c.a_at-a.ensures _
@@ -20,15 +13,12 @@ returns-then-kind-eq-STAR c = let x = star-named c.args.table.now _ _ _ c.kind_a
     c.name_child.ensures.before
     c.name_child.ensures.marked in record { again = x.0; right = x.1 }
 
-pub b_at-b-requires : goal.b_at-b-requires
-b_at-b-requires c = c.requires.inside
-
 pub returns-then-kind-eq-OR : goal.returns-then-kind-eq-OR
 returns-then-kind-eq-OR c = let x = two-named c.args.table.now _ _ _ c.kind_at-kind.ensures c.a_at-a.ensures _
     c.requires.right
     _
     c.b_at-b.ensures
-    (⊎_elim (λ w. inl w) (λ w. inr w.1) c.then-kind-eq-OR.either)
+    (⊎_elim inl (λ w. inr w.1) c.then-kind-eq-OR.either)
     c.a_at-a.type_inv
     c.b_at-b.type_inv
     _
@@ -45,4 +35,4 @@ returns c = let x = none_named c.args.table.now _ _ _ c.kind_at-kind.ensures c.a
     c.requires.right
     c.if-kind-eq-STAR.false
     c.if-kind-eq-OR.false
-    (eqb-false _ 4 c.if-kind-eq-SEQ.false-raw) in record { again = x.0; right = x.1 }
+    c.if-kind-eq-SEQ.false in record { again = x.0; right = x.1 }

@@ -1,6 +1,5 @@
 -- `table::put_record` meets its contract. Assumes nothing.
 use Prim.Native.Nat.{◌*◌}
-use borrow.Author.Rules.{rules}
 use Rattle.table.proofs.Storing.{room-2, room-3, stored_bytes}
 use Rattle.table.proofs.put_record.Goals as goal
 
