@@ -76,7 +76,7 @@ uninstall:
 install-files:
 	@printf '%s\n' $(INSTALL_FILES)
 
-# The gate: proofs from nothing, must-fail edits, programs, and the tests outside Rattle.
+# The gate: proofs, must-fail edits, programs, and the tests outside Rattle.
 test:
 	@bash .ci/run
 

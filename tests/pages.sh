@@ -46,13 +46,14 @@ for name in $(nm target/bin/* | awk '$1 == "U" { print $2 } $2 == "T" && $3 ~ /^
     grep -q "\`$name\`" README.md || fail "README.md does not name $name, which a program calls"
 done
 
-# each file that a page names by its path is there, each must-fail edit and function of docs/PROMISES.md, and each definition or theorem that is
-# written with its file; names that stand alone are not looked for
+# each file that a page names by its path is there; each must-fail edit, function and other name of docs/PROMISES.md that stands alone and has an
+# underscore; and each definition or theorem that is written with its file. Other names that stand alone are not looked for
 for path in $(quoted "${pages[@]}" | grep -E '^(bench|crates|demo|docs|examples|include|man|packaging|tests)/[A-Za-z0-9_./+-]*$' | grep -vE '\b(NAME|CRATE|NN)\b'); do
     [ -e "$path" ] || [ -e "crates/$path" ] || fail "no file $path"
 done
 for name in $(quoted docs/PROMISES.md | grep -E '^[a-z0-9]+(_[a-z0-9]+)+$'); do
-    grep -qrE "\b$name\b" crates/*/src || ls crates/*/must-fail/"$name.edit" >/dev/null 2>&1 || [ -d "crates/$name" ] || fail "no must-fail edit or function $name"
+    grep -qrE "\b$name\b" crates/*/src || ls crates/*/must-fail/"$name.edit" >/dev/null 2>&1 || [ -d "crates/$name" ] ||
+        grep -qrE "^ *((pub|abbrev|unfoldable) )*$name( .*)? :( |$)" crates/*/{specs,proofs} || fail "no must-fail edit, function, definition or theorem $name"
 done
 for name in $(quoted docs/PROMISES.md docs/FORMATS.md docs/REVIEW.md | grep -E '^[A-Z][A-Za-z]+\.[A-Za-z-]+$' | grep -vE '\.(antt|md|rt)$|^File\.name$'); do
     grep -qsE "(^|[ {])${name#*.}([ ,:}]|$)" crates/*/{specs,proofs}/"${name%%.*}".antt || fail "no $name"
