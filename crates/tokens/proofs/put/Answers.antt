@@ -1,9 +1,7 @@
 -- `tokens::put` meets its contract. Assumes nothing.
 use mathlib.Core.Path.{◌≡◌, refl, ◌∙◌, ap}
 use mathlib.Core.List.{[], ◌∷◌}
-use mathlib.Core.Logic.{⊎_elim}
 use native.Mathlib.Omega.{arith}
-use borrow.Author.Rules.{rules}
 use lib.ListN.{length}
 use Rattle.reading.specs.Writing.{wrote}
 use Rattle.reading.proofs.Writing.{wrote-length}
@@ -23,7 +21,7 @@ bounds-out-at-then-writing-2 c = third-room c.args.out.now c.args.at c.args.tag 
 pub shape_of-out : goal.shape_of-out
 shape_of-out c =
     let stored : c.if-writing.out ≡ wrote c.args.writing c.args.out.now c.args.at (c.args.tag ∷ c.args.offset ∷ c.args.size ∷ []) = elim c.if-writing.branch [
-      then-writing w ↦ put-stored c.args.writing c.args.out.now _ c.args.at c.args.tag c.args.offset c.args.size w.if-writing.true w.out-is
+      | then-writing w ↦ put-stored c.args.writing c.args.out.now _ c.args.at c.args.tag c.args.offset c.args.size w.if-writing.true w.out-is
       | else-writing w ↦ put-counted c.args.writing c.args.out.now _ c.args.at c.args.tag c.args.offset c.args.size w.if-writing.false w.out-is
     ] in
     ap length stored ∙ wrote-length c.args.writing _ _ _
@@ -31,7 +29,7 @@ shape_of-out c =
 pub returns : goal.returns
 returns c =
     let stored : c.if-writing.out ≡ wrote c.args.writing c.args.out.now c.args.at (c.args.tag ∷ c.args.offset ∷ c.args.size ∷ []) = elim c.if-writing.branch [
-      then-writing w ↦ put-stored c.args.writing c.args.out.now _ c.args.at c.args.tag c.args.offset c.args.size w.if-writing.true w.out-is
+      | then-writing w ↦ put-stored c.args.writing c.args.out.now _ c.args.at c.args.tag c.args.offset c.args.size w.if-writing.true w.out-is
       | else-writing w ↦ put-counted c.args.writing c.args.out.now _ c.args.at c.args.tag c.args.offset c.args.size w.if-writing.false w.out-is
     ] in
     record { index = refl; buffer = stored }

@@ -1,8 +1,6 @@
 -- `tokens::tokens` meets its contract: one law of Calls for each way out. Assumes nothing.
 use native.Mathlib.Omega.{arith}
-use borrow.Author.Rules.{rules}
-use Rattle.reading.specs.Fitting.{Fits}
-use Rattle.reading.proofs.Admission.{admitted, Admitted}
+use Rattle.reading.proofs.Admission.{admitted}
 use Rattle.reading.proofs.Wholes.{whole-reading, whole-missing}
 use Rattle.tokens.proofs.Calls.{tokens-table, tokens-misfit, count-walk, tokens-buffer, write-walk, tokens-done}
 use Rattle.tokens.proofs.tokens.Goals as goal
