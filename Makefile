@@ -7,7 +7,9 @@ CC = gcc
 CXX = g++
 WARNINGS = -Wall -Wextra -Wpedantic -Werror
 CFLAGS = -O2 $(WARNINGS) -Iinclude
-SOURCES := crates.txt $(shell find crates -name '*.rt' -o -name '*.antt')
+# What the crates are made of. Each crate's out/ folder holds what rt made of it.
+SOURCES := crates.txt $(shell find crates -name out -prune -o \( -name '*.rt' -o -name '*.antt' \) -print)
+QUIET = bash $(CURDIR)/tests/quiet.sh
 BUILD = target/outside
 REFEREE = $(BUILD)/referee/release/referee
 CARGO = cd tests/referee && TRACE_LIB_DIR=$(CURDIR)/target/staticlib CARGO_TARGET_DIR=$(CURDIR)/$(BUILD)/referee cargo
@@ -29,16 +31,20 @@ lib: $(LIB)
 shared: $(SHARED)
 
 $(LIB): $(SOURCES)
-	@rt staticlib trace 2>&1 | bash tests/quiet.sh
+	@cd crates/trace && rt lib 2>&1 | $(QUIET)
+	@mkdir -p $(@D)
+	@cp crates/trace/out/libtrace.a $@
 
 $(SHARED): $(LIB) packaging/libtrace.map
 	@mkdir -p $(@D)
 	@$(CC) -shared -Wl,-soname,libtrace.so.$(MAJOR) -Wl,--version-script=packaging/libtrace.map -Wl,-z,defs \
 	    -Wl,--whole-archive $(LIB) -Wl,--no-whole-archive -o $@
 
+# rt builds a program to run it: here on its crate's sample input, for nobody to read. What rt says goes to standard error.
 $(PROGRAMS): target/bin/%: $(SOURCES)
-	@rt check $* 2>&1 | bash tests/quiet.sh
-	@touch $@
+	@cd crates/$* && rt run 2>&1 >/dev/null <stdin | $(QUIET)
+	@mkdir -p $(@D)
+	@cp crates/$*/out/$* $@
 
 # make install PREFIX=/usr/local DESTDIR=: the files below, under PREFIX, or for a package under DESTDIR and PREFIX.
 PREFIX = /usr/local

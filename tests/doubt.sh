@@ -1,6 +1,6 @@
 #!/usr/bin/env bash
-# Tries one must-fail edit: make doubt EDIT=CRATE/LABEL. In a copy of the repository the crate is proved with the edit, and what the prover says
-# first is shown. Run from the repository's root.
+# Tries one must-fail edit: make doubt EDIT=CRATE/LABEL. In a copy of the repository the crate is proved with the edit: what rt must-fail says of it, and
+# what the prover says first. Run from the repository's root.
 set -euo pipefail
 crate=${1%%/*}
 label=${1#*/}
@@ -11,11 +11,24 @@ if [ ! -f "$edit" ]; then
 fi
 dir=$(mktemp -d)
 trap 'rm -rf "$dir"' EXIT
-cp -R crates crates.txt "$dir"
-if [ -d target ]; then cp -R target "$dir"; fi
+tar -c --exclude='crates/*/out' crates crates.txt | tar -xC "$dir"
 find "$dir/crates" -name '*.edit' ! -path "$dir/$edit" -delete
 cat "$edit"
 cd "$dir"
-rt must-fail "$crate" | grep --line-buffered '^rt:'
+rt must-fail "$crate" | grep --line-buffered '^rt: must-fail' || true
+
+# the edit, as rt must-fail reads it
+while IFS= read -r line || [ -n "$line" ]; do
+    case $line in
+    'file: '*) file=crates/$crate/${line#file: } ;;
+    'old: '*) old=${line#old: } ;;
+    'new:'*)
+        new=${line#new:}
+        text=$(<"$file")
+        printf '%s\n' "${text/"$old"/"${new# }"}" >"$file"
+        ;;
+    esac
+done <"$edit"
 echo "the first errors:"
-grep -m 3 'error' "target/must-fail/$crate/$label/.log" | cut -c 1-400
+(cd "crates/$crate" && rt check >"$dir/log" 2>&1) || true
+grep -m 3 -E '^(note: )?[^ ]+:[0-9]+:[0-9]+: ' "$dir/log" | cut -c 1-400

@@ -42,7 +42,7 @@ done
 for crate in $(sed -n 's/^\([a-z_]*\):.*/\1/p' crates.txt); do
     grep -q "^| \`$crate\` |" README.md || fail "README.md has no line for the crate $crate"
 done
-for name in $(nm -u target/obj/*.o | awk '$1 == "U" { print $2 }' | sort -u); do
+for name in $(nm target/bin/* | awk '$1 == "U" { print $2 } $2 == "T" && $3 ~ /^rattle_/ { print $3 }' | sed 's/@.*//' | sort -u); do
     grep -q "\`$name\`" README.md || fail "README.md does not name $name, which a program calls"
 done
 
