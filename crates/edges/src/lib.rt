@@ -1,4 +1,5 @@
 // Whether a record may spell a line at all, by the line's first and last byte and by the bytes that no letter holds.
+#![tactic(auto)]
 
 ghost use Rattle.std.specs.Prelude.{◌+◌, ◌*◌, ◌/◌, ◌%◌, ◌^◌, ◌≤◌, ◌<◌, ◌≡◌, false, length, get_or};
 ghost use Rattle.posix.specs.Expressions.{holds};

@@ -1,5 +1,7 @@
 // A line's tokens: Read, then Tokens on the reading.
 
+#![tactic(auto)]
+
 ghost use Rattle.std.specs.Prelude.{◌≡◌, length};
 ghost use Rattle.table.specs.Answers.{says};
 ghost use Rattle.lexer.specs.Lexing.{lex_says, lex_leaves};

@@ -31,7 +31,6 @@ use Rattle.rows.specs.Rows.{Inside}
 use Rattle.rows.proofs.Places.{area_size-formula, row-held}
 use Rattle.area.specs.Area.{Told}
 use Rattle.reading.specs.Codec.{fits, encode, decode}
-use Rattle.reading.specs.Fitting.{spelled}
 use Rattle.table.specs.Buffers.{if_room, after}
 use Rattle.reading.specs.Calls.{if_start, bytes_of}
 use Rattle.reading.proofs.Codec.{decode-complete}

@@ -2,6 +2,8 @@
 // and the whole line down to single bytes and stores the records of the reading on its way. A position of the walk is a record k and the
 // first e of the last d bytes of the line.
 
+#![tactic(auto)]
+
 ghost use Rattle.std.specs.Prelude.{ℕ, ◌≤◌, ◌<◌, ◌≡◌, true, length};
 ghost use Rattle.table.specs.Records.{count, kind_at, is_letter};
 ghost use Rattle.table.specs.Answers.{says, gives};

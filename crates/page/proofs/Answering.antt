@@ -61,7 +61,7 @@ module _ (l p : Rules) (page : List ℕ) (z : Sizes) (out : List ℕ) where
         unfolding keeps_scratch
         scratch-free k =
             let few : ltb 255 (length (lines_of page)) ≡ false = le-ltb 255 (length (lines_of page)) (omega arith) in
-            let none : keeps_scratch l p page ≡ false = rw (line-rules-taken, page-rules-taken, few) in
+            let none : keeps_scratch l p page ≡ false = simp (line-rules-taken, page-rules-taken, few) in
             absurd (true≢false (sym k ∙ none))
 
         module _ {classes : List ℕ} {r : Lines} (x : LinesRead l z page classes r) where

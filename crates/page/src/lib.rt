@@ -153,7 +153,7 @@ fn take_line(
 ) -> Step
     requires classes { count < length classes.old }
     requires prior { Within prior.now priortokens.now }
-    ensures { Stepped (record { table = table.entry.now; start = start }) (length work.old) (length reading.old) number
+    ensures { Stepped (record { table = table.now; start = start }) (length work.old) (length reading.old) number
         line.now prior.now priortokens.now own.old own.new classes.old count
         classes.new result }
 {
@@ -197,7 +197,7 @@ fn take_by_parity(
     requires size { size ≤ length (by_parity number second.old first.old) }
     requires prior { Within prior.now (take size (by_parity number second.old first.old)) }
     ensures kept { by_parity number second.new first.new ≡ by_parity number second.old first.old }
-    ensures line { Stepped (record { table = table.entry.now; start = start }) (length work.old) (length reading.old) number
+    ensures line { Stepped (record { table = table.now; start = start }) (length work.old) (length reading.old) number
         line.now prior.now (take size (by_parity number second.old first.old))
         (by_parity number first.old second.old) (by_parity number first.new second.new)
         classes.old count classes.new result }
@@ -245,8 +245,8 @@ fn take_lines(
 ) -> Lines
     requires few { length (lines_of page.now) ≤ 255 }
     requires classes { length classes.old ≡ 255 }
-    ensures { LinesRead (record { table = table.entry.now; start = start })
-        (record { work = length work.entry.now; reading = length reading.old; first = length first.old; second = length second.old })
+    ensures { LinesRead (record { table = table.now; start = start })
+        (record { work = length work.old; reading = length reading.old; first = length first.old; second = length second.old })
         page.now classes.new result }
 {
     let mut prior_start = 0;
@@ -320,12 +320,12 @@ pub fn read_page(
     ensures answer { outcome_says result
         ≡ page_says (record { table = linetable.now; start = linestart }) (record { table = pagetable.now; start = pagestart })
         page.now
-        (record { work = length work.entry.now; reading = length reading.old; first = length first.old; second = length second.old })
+        (record { work = length work.old; reading = length reading.old; first = length first.old; second = length second.old })
         (length out.old) }
     ensures buffer { out.new
         ≡ page_leaves (record { table = linetable.now; start = linestart }) (record { table = pagetable.now; start = pagestart })
         page.now
-        (record { work = length work.entry.now; reading = length reading.old; first = length first.old; second = length second.old })
+        (record { work = length work.old; reading = length reading.old; first = length first.old; second = length second.old })
         out.old }
     ensures scratch { keeps_scratch (record { table = linetable.now; start = linestart }) (record { table = pagetable.now; start = pagestart })
         page.now ≡ true

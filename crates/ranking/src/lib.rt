@@ -1,4 +1,5 @@
 // Compare and Earlier: which of two readings of a line ranks ahead.
+#![tactic(auto)]
 
 ghost use Rattle.std.specs.Prelude.{◌+◌, ◌≤◌, ◌≡◌, [], ◌⊎◌, length};
 ghost use Rattle.table.specs.Answers.{says};

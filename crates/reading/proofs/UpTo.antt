@@ -1,7 +1,7 @@
 -- The encoding of a reading by a table that passes is the one by any table with the same records up to the reading's, because children stand below
 -- their parents; so the same byte sequences fit, as the same readings.
 -- Assumes nothing.
-use Prim.Native.Nat.{ℕ, ◌+◌, ◌≤◌, ◌<◌}
+use Prim.Native.Nat.{ℕ, ◌≤◌, ◌<◌}
 use native.Mathlib.Omega.{arith}
 use mathlib.Core.Path.{◌≡◌, refl, sym, ◌∙◌, ap, ap₂, subst}
 use mathlib.Core.List.{List, ◌++◌}

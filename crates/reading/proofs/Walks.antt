@@ -11,7 +11,7 @@ use lib.Dec.{eqb, leb}
 use lib.ListN.{length, drop, length-append, length-drop}
 use lib.Seq.{drop-drop, drop-append_seam}
 use Rattle.posix.specs.Expressions.{ByteSet, within, outside, holds, Exp, nothing, empty, letter, or, seq, star}
-use Rattle.posix.specs.Values.{Val, void, byte, left, right, pair, none, more, flat, Reads}
+use Rattle.posix.specs.Values.{Val, void, byte, left, right, pair, more, flat, Reads}
 use Rattle.table.specs.Records.{count, kind_at, a_at, b_at}
 use Rattle.table.specs.Faults.{Passes}
 use Rattle.table.specs.Expression.{exp_of}

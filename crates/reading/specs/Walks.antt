@@ -6,7 +6,6 @@ use Rattle.posix.specs.Values.{void, byte, left, right, pair, flat}
 use Rattle.posix.specs.Decision.{Parsed, found, missing}
 use Rattle.table.specs.Records.{kind_at, a_at, b_at}
 use Rattle.table.specs.Expression.{exp_of}
-use Rattle.reading.specs.declared.Span.{Span}
 use Rattle.reading.specs.declared.Fit.{Fit}
 use Rattle.reading.specs.declared.Fit.TheVariants.{Found, Unfit}
 use Rattle.reading.specs.declared.Shape.{Shape}

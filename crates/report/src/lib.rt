@@ -1,5 +1,7 @@
 // What the program prints for a table and for a line.
 
+#![tactic(auto)]
+
 ghost use Rattle.std.specs.Prelude.{ℕ, ◌+◌, ◌*◌, ◌≤◌, ◌≡◌, List, [], ◌∷◌, ◌++◌, length, take, drop};
 ghost use Rattle.table.specs.Answers.{refuses, refusal};
 ghost use Rattle.tokens.specs.Tokens.{Token, token_bytes};

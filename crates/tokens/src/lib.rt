@@ -1,4 +1,5 @@
 // Tokens: the outermost tagged parts of a reading.
+#![tactic(auto)]
 
 ghost use Rattle.std.specs.Prelude.{◌+◌, ◌≤◌, ◌<◌, ◌≡◌, true, [], ◌∷◌, length};
 ghost use Rattle.table.specs.Answers.{says};

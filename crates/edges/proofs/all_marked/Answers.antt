@@ -1,9 +1,7 @@
 -- `edges::all_marked` meets its contract. The loop's invariant: `i` is at most the line's length.
 -- Assumes nothing.
-use Prim.Native.Nat.{◌≤◌, ◌-◌}
 use native.Mathlib.Omega.{arith}
 use mathlib.Core.Bool.{true≢false}
-use lib.ListN.{length}
 use borrow.Author.Tests.{eqb-true, not-false}
 use Rattle.edges.proofs.Marks.{byte-unmarked, pair-unmarked}
 use Rattle.edges.proofs.all_marked.Goals as goal

@@ -1,12 +1,10 @@
 -- `edges::find_bits` meets its contract. The loop's invariant: the bytes of the records below `j` are found, `near` is the last of them, and
 -- the bytes of the letters below `j` are marked.
 -- Assumes nothing.
-use Prim.Native.Nat.{◌+◌, ◌-◌, ◌≤◌}
+use Prim.Native.Nat.{◌+◌}
 use native.Mathlib.Omega.{arith}
 use mathlib.Core.Path.{◌≡◌, ◌∙◌}
 use Rattle.table.proofs.Passing.{count-bound}
-use Rattle.edges.specs.Bits.{Found, Near}
-use Rattle.edges.specs.Held.{LettersMarked}
 use Rattle.edges.proofs.Records.{found_none, found-next, near_next}
 use Rattle.edges.proofs.Marks.{letters-none}
 use Rattle.edges.proofs.find_bits.Goals as goal

@@ -2,13 +2,8 @@
 -- the bytes of the letters below `j` are marked.
 -- Assumes nothing.
 use Prim.Native.Nat.{◌+◌, ◌-◌, ◌≤◌}
-use native.Mathlib.Omega.{arith}
-use mathlib.Core.Path.{◌≡◌, ◌∙◌}
-use Rattle.table.proofs.Passing.{count-bound}
 use Rattle.edges.specs.Bits.{Found, Near}
 use Rattle.edges.specs.Held.{LettersMarked}
-use Rattle.edges.proofs.Records.{found_none, found-next, near_next}
-use Rattle.edges.proofs.Marks.{letters-none}
 use Rattle.edges.proofs.find_bits.Given as goal
 
 abbrev pub invariant-loop-j : goal.invariant-loop-j

@@ -1,5 +1,4 @@
 -- `edges::found_at` meets its contract. Assumes nothing.
-use borrow.Author.Rules.{rules}
 use Rattle.edges.proofs.found_at.Goals as goal
 
 pub returns-then-i-k : goal.returns-then-i-k

@@ -1,7 +1,6 @@
 -- `edges::letter_bits` meets its contract: the two tests. Assumes nothing.
 use native.Mathlib.Omega.{arith}
 use Rattle.edges.proofs.Records.{test-byte, bits-by}
-use borrow.Author.Rules.{rules}
 use Rattle.edges.proofs.letter_bits.Goals as goal
 
 pub overflow_mul-result : goal.overflow_mul-result

@@ -1,7 +1,6 @@
 -- `edges::mark_above` meets its contract. Assumes nothing.
 use native.Mathlib.Omega.{arith}
 use Rattle.edges.proofs.Marks.{from-none}
-use borrow.Author.Rules.{rules}
 use Rattle.edges.proofs.mark_above.Goals as goal
 
 pub returns-then-b-eq255 : goal.returns-then-b-eq255

@@ -3,7 +3,6 @@ use Prim.Native.Nat.{◌+◌, ◌-◌}
 use native.Mathlib.Omega.{arith}
 use mathlib.Core.Path.{◌≡◌}
 use Rattle.edges.proofs.Marks.{from-none}
-use borrow.Author.Rules.{rules}
 use Rattle.edges.proofs.mark_below.Goals as goal
 
 pub returns-then-a-eq0 : goal.returns-then-a-eq0

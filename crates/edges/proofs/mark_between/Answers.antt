@@ -1,7 +1,6 @@
 -- `edges::mark_between` meets its contract. Assumes nothing.
 use mathlib.Core.Logic.{inl, inr}
 use Rattle.edges.proofs.Marks.{in-none, in-word}
-use borrow.Author.Rules.{rules}
 use Rattle.edges.proofs.mark_between.Goals as goal
 
 pub returns-then-w-low : goal.returns-then-w-low

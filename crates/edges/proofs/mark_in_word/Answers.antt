@@ -1,6 +1,5 @@
 -- `edges::mark_in_word` meets its contract, by the law of the run of bits. Assumes nothing.
 use Rattle.edges.proofs.Marks.{run-marked}
-use borrow.Author.Rules.{rules}
 use Rattle.edges.proofs.mark_in_word.Goals as goal
 
 pub returns : goal.returns

@@ -2,7 +2,6 @@
 use native.Mathlib.Omega.{arith}
 use mathlib.Core.Path.{refl}
 use Rattle.edges.proofs.Marks.{range-parts}
-use borrow.Author.Rules.{rules}
 use Rattle.edges.proofs.mark_range.Goals as goal
 
 pub mark_in_word-requires : goal.mark_in_word-requires

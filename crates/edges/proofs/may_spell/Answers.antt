@@ -6,7 +6,6 @@ use Rattle.table.specs.Expression.{exp_of}
 use Rattle.edges.proofs.Edges.{first-missing, last-missing}
 use Rattle.edges.proofs.Records.{start-missing, end-missing}
 use Rattle.edges.proofs.Marks.{unmarked-none}
-use borrow.Author.Rules.{rules}
 use Rattle.edges.proofs.may_spell.Goals as goal
 
 pub returns-then-n-eq0 : goal.returns-then-n-eq0

@@ -1,5 +1,4 @@
 -- `edges::seq_bits` meets its contract by the law `seq-right`. Assumes nothing.
-use native.Mathlib.Omega.{arith}
 use Rattle.edges.proofs.Bits.{seq-right}
 use Rattle.edges.proofs.seq_bits.Goals as goal
 

@@ -3,14 +3,11 @@
 -- Assumes nothing.
 use native.Mathlib.Omega.{arith}
 use mathlib.Core.Path.{◌≡◌, sym, ◌∙◌}
-use borrow.Author.Rules.{rules}
 use Rattle.table.specs.Records.{kind_at}
 use Rattle.table.proofs.Passing.{letter_at, kind-nothing}
 use Rattle.matcher.proofs.Positions.{record-there, not-nothing, row_told, or-a, or-b, seq-a, seq-b, seq-searched, star-a, star-searched}
-use Rattle.matcher.proofs.Storing.{stored-length}
 use Rattle.matcher.proofs.Walking.{bytes-here, headed-room, headed-given, headed-walked, left-headed, right-headed, star-headed, seq-room, seq-first, seq-second, seq-walked}
-use Rattle.matcher.proofs.Iterating.{Iterating, count_small, iterating-none, iterating-first, iterating-more, iterating-end}
-use Prim.Native.Nat.{ℕ, ◌+◌, ◌*◌, ◌<◌}
+use Rattle.matcher.proofs.Iterating.{count_small, iterating-none, iterating-first, iterating-more, iterating-end}
 use Rattle.matcher.proofs.+walking.Goals as goal
 
 pub walk-kind_at-kind-requires : goal.walk-kind_at-kind-requires
@@ -51,12 +48,7 @@ pub walk-returns-in_default : goal.walk-returns-in_default
 walk-returns-in_default t c =
     let zero : kind_at c.args.table.now c.args.k ≡ 0 =
     kind-nothing _ c.requires.here.passes _ c.requires.here.record_inside
-    c.kind_at-kind.ensures
-    c.in_default.in_default-own.rest.0.0.0.0.1
-    c.in_default.in_default-own.rest.0.0.0.1
-    c.in_default.in_default-own.rest.0.0.1
-    c.in_default.in_default-own.rest.0.1
-    c.in_default.in_default-own.rest.1 in
+    c.kind_at-kind.ensures (omega arith) (omega arith) (omega arith) (omega arith) (omega arith) in
     absurd (not-nothing c.requires.here zero)
 
 pub walk_iterations-a_at-a-requires : goal.walk_iterations-a_at-a-requires
@@ -66,10 +58,16 @@ pub walk_iterations-loop-size-init : goal.walk_iterations-loop-size-init
 walk_iterations-loop-size-init t c = iterating-none c.requires.given
 
 pub walk_iterations-longest_first_part-cut-requires : goal.walk_iterations-longest_first_part-cut-requires
-walk_iterations-longest_first_part-cut-requires t c = star-searched c.loop-size.invariant.here c.a_at-a.ensures c.requires.k_value _ (omega arith) (omega (arith, c.loop-size-test.true)) c.requires.given.area
+walk_iterations-longest_first_part-cut-requires t c =
+    star-searched c.loop-size.invariant.here c.a_at-a.ensures c.requires.k_value _ (omega arith)
+    (omega (arith, c.loop-size-test.true)) c.requires.given.area
 
 pub walk_iterations-walk-next-requires : goal.walk_iterations-walk-next-requires
-walk_iterations-walk-next-requires t c = (omega (arith, c.decreases, star-a c.loop-size.invariant.here c.a_at-a.ensures c.requires.k_value), iterating-first c.loop-size.invariant c.a_at-a.ensures c.requires.k_value (omega (arith, c.longest_first_part-cut.ensures.found.above)) c.longest_first_part-cut.ensures c.requires.given.area)
+walk_iterations-walk-next-requires t c = (
+  omega (arith, c.decreases, star-a c.loop-size.invariant.here c.a_at-a.ensures c.requires.k_value),
+  iterating-first c.loop-size.invariant c.a_at-a.ensures c.requires.k_value
+      (omega (arith, c.longest_first_part-cut.ensures.found.above)) c.longest_first_part-cut.ensures c.requires.given.area,
+)
 
 pub walk_iterations-overflow_sub-left : goal.walk_iterations-overflow_sub-left
 walk_iterations-overflow_sub-left t c = omega (arith, c.longest_first_part-cut.ensures.found.inside, c.loop-size.invariant.here.size)
@@ -81,7 +79,9 @@ pub walk_iterations-loop-size-smaller : goal.walk_iterations-loop-size-smaller
 walk_iterations-loop-size-smaller t c = omega (arith, c.longest_first_part-cut.ensures.found.inside, c.longest_first_part-cut.ensures.found.above)
 
 pub walk_iterations-loop-size-preserved : goal.walk_iterations-loop-size-preserved
-walk_iterations-loop-size-preserved t c = iterating-more c.loop-size.invariant c.a_at-a.ensures c.requires.k_value (omega (arith, c.longest_first_part-cut.ensures.found.above)) c.longest_first_part-cut.ensures c.walk-next.ensures
+walk_iterations-loop-size-preserved t c =
+    iterating-more c.loop-size.invariant c.a_at-a.ensures c.requires.k_value
+    (omega (arith, c.longest_first_part-cut.ensures.found.above)) c.longest_first_part-cut.ensures c.walk-next.ensures
 
 pub walk_iterations-returns : goal.walk_iterations-returns
 walk_iterations-returns t c = iterating-end c.loop-size.invariant c.a_at-a.ensures c.requires.k_value (omega (arith, c.loop-size-test.false))
@@ -94,25 +94,60 @@ walk_or-b_at-b-requires t c = record-there c.requires.given.here
 
 pub walk_or-tell-requires : goal.walk_or-tell-requires
 walk_or-tell-requires t c =
-    record { inside = row_told c.requires.given.here _ (omega (arith, or-a c.requires.given.here c.a_at-a.ensures c.b_at-b.ensures c.requires.k_value, c.requires.given.here.record_inside)) c.requires.given.area; e_le_d = omega (arith, c.requires.given.here.size) }
+    record {
+      inside = row_told c.requires.given.here _ (omega (
+        arith,
+        or-a c.requires.given.here c.a_at-a.ensures c.b_at-b.ensures c.requires.k_value,
+        c.requires.given.here.record_inside,
+      )) c.requires.given.area;
+      e_le_d = omega (arith, c.requires.given.here.size);
+    }
 
 pub walk_or-put-next-requires : goal.walk_or-put-next-requires
-walk_or-put-next-requires t c = record { room = headed-room (left-headed c.requires.given.here c.a_at-a.ensures c.b_at-b.ensures c.requires.k_value c.tell.ensures c.if-tell.true) c.requires.given; bytes = bytes-here c.requires.given.here }
+walk_or-put-next-requires t c =
+    record {
+      room = headed-room
+          (left-headed c.requires.given.here c.a_at-a.ensures c.b_at-b.ensures c.requires.k_value c.tell.ensures c.if-tell.true)
+          c.requires.given;
+      bytes = bytes-here c.requires.given.here;
+    }
 
 pub walk_or-walk-requires : goal.walk_or-walk-requires
-walk_or-walk-requires t c = (omega (arith, c.decreases, or-a c.requires.given.here c.a_at-a.ensures c.b_at-b.ensures c.requires.k_value), headed-given (left-headed c.requires.given.here c.a_at-a.ensures c.b_at-b.ensures c.requires.k_value c.tell.ensures c.if-tell.true) c.requires.given c.put-next.ensures)
+walk_or-walk-requires t c = (
+  omega (arith, c.decreases, or-a c.requires.given.here c.a_at-a.ensures c.b_at-b.ensures c.requires.k_value),
+  headed-given
+      (left-headed c.requires.given.here c.a_at-a.ensures c.b_at-b.ensures c.requires.k_value c.tell.ensures c.if-tell.true)
+      c.requires.given c.put-next.ensures,
+)
 
 pub walk_or-returns-then-tell : goal.walk_or-returns-then-tell
-walk_or-returns-then-tell t c = headed-walked (left-headed c.requires.given.here c.a_at-a.ensures c.b_at-b.ensures c.requires.k_value c.tell.ensures c.if-tell.true) c.put-next.ensures c.walk.ensures
+walk_or-returns-then-tell t c =
+    headed-walked
+    (left-headed c.requires.given.here c.a_at-a.ensures c.b_at-b.ensures c.requires.k_value c.tell.ensures c.if-tell.true)
+    c.put-next.ensures c.walk.ensures
 
 pub walk_or-put-next-requires-2 : goal.walk_or-put-next-requires-2
-walk_or-put-next-requires-2 t c = record { room = headed-room (right-headed c.requires.given.here c.a_at-a.ensures c.b_at-b.ensures c.requires.k_value c.tell.ensures c.if-tell.false) c.requires.given; bytes = bytes-here c.requires.given.here }
+walk_or-put-next-requires-2 t c =
+    record {
+      room = headed-room
+          (right-headed c.requires.given.here c.a_at-a.ensures c.b_at-b.ensures c.requires.k_value c.tell.ensures c.if-tell.false)
+          c.requires.given;
+      bytes = bytes-here c.requires.given.here;
+    }
 
 pub walk_or-walk-requires-2 : goal.walk_or-walk-requires-2
-walk_or-walk-requires-2 t c = (omega (arith, c.decreases, or-b c.requires.given.here c.a_at-a.ensures c.b_at-b.ensures c.requires.k_value), headed-given (right-headed c.requires.given.here c.a_at-a.ensures c.b_at-b.ensures c.requires.k_value c.tell.ensures c.if-tell.false) c.requires.given c.put-next-2.ensures)
+walk_or-walk-requires-2 t c = (
+  omega (arith, c.decreases, or-b c.requires.given.here c.a_at-a.ensures c.b_at-b.ensures c.requires.k_value),
+  headed-given
+      (right-headed c.requires.given.here c.a_at-a.ensures c.b_at-b.ensures c.requires.k_value c.tell.ensures c.if-tell.false)
+      c.requires.given c.put-next-2.ensures,
+)
 
 pub walk_or-returns : goal.walk_or-returns
-walk_or-returns t c = headed-walked (right-headed c.requires.given.here c.a_at-a.ensures c.b_at-b.ensures c.requires.k_value c.tell.ensures c.if-tell.false) c.put-next-2.ensures c.walk-2.ensures
+walk_or-returns t c =
+    headed-walked
+    (right-headed c.requires.given.here c.a_at-a.ensures c.b_at-b.ensures c.requires.k_value c.tell.ensures c.if-tell.false)
+    c.put-next-2.ensures c.walk-2.ensures
 
 pub walk_seq-a_at-a-requires : goal.walk_seq-a_at-a-requires
 walk_seq-a_at-a-requires t c = record-there c.requires.given.here
@@ -121,13 +156,22 @@ pub walk_seq-b_at-b-requires : goal.walk_seq-b_at-b-requires
 walk_seq-b_at-b-requires t c = record-there c.requires.given.here
 
 pub walk_seq-longest_first_part-first-requires : goal.walk_seq-longest_first_part-first-requires
-walk_seq-longest_first_part-first-requires t c = seq-searched c.requires.given.here c.a_at-a.ensures c.b_at-b.ensures c.requires.k_value c.requires.given.area
+walk_seq-longest_first_part-first-requires t c =
+    seq-searched c.requires.given.here c.a_at-a.ensures c.b_at-b.ensures c.requires.k_value c.requires.given.area
 
 pub walk_seq-put-next-requires : goal.walk_seq-put-next-requires
-walk_seq-put-next-requires t c = record { room = seq-room c.requires.given c.a_at-a.ensures c.b_at-b.ensures c.requires.k_value c.longest_first_part-first.ensures; bytes = bytes-here c.requires.given.here }
+walk_seq-put-next-requires t c =
+    record {
+      room = seq-room c.requires.given c.a_at-a.ensures c.b_at-b.ensures c.requires.k_value c.longest_first_part-first.ensures;
+      bytes = bytes-here c.requires.given.here;
+    }
 
 pub walk_seq-walk-middle-requires : goal.walk_seq-walk-middle-requires
-walk_seq-walk-middle-requires t c = (omega (arith, c.decreases, seq-a c.requires.given.here c.a_at-a.ensures c.b_at-b.ensures c.requires.k_value), seq-first c.requires.given c.a_at-a.ensures c.b_at-b.ensures c.requires.k_value c.longest_first_part-first.ensures c.put-next.ensures)
+walk_seq-walk-middle-requires t c = (
+  omega (arith, c.decreases, seq-a c.requires.given.here c.a_at-a.ensures c.b_at-b.ensures c.requires.k_value),
+  seq-first c.requires.given c.a_at-a.ensures c.b_at-b.ensures c.requires.k_value c.longest_first_part-first.ensures
+      c.put-next.ensures,
+)
 
 pub walk_seq-overflow_sub-d : goal.walk_seq-overflow_sub-d
 walk_seq-overflow_sub-d t c = omega (arith, c.longest_first_part-first.ensures.found.inside, c.requires.given.here.size)
@@ -136,10 +180,16 @@ pub walk_seq-overflow_sub-e : goal.walk_seq-overflow_sub-e
 walk_seq-overflow_sub-e t c = omega (arith, c.longest_first_part-first.ensures.found.inside)
 
 pub walk_seq-walk-requires : goal.walk_seq-walk-requires
-walk_seq-walk-requires t c = (omega (arith, c.decreases, seq-b c.requires.given.here c.a_at-a.ensures c.b_at-b.ensures c.requires.k_value), seq-second c.requires.given c.a_at-a.ensures c.b_at-b.ensures c.requires.k_value c.longest_first_part-first.ensures c.put-next.ensures c.walk-middle.ensures)
+walk_seq-walk-requires t c = (
+  omega (arith, c.decreases, seq-b c.requires.given.here c.a_at-a.ensures c.b_at-b.ensures c.requires.k_value),
+  seq-second c.requires.given c.a_at-a.ensures c.b_at-b.ensures c.requires.k_value c.longest_first_part-first.ensures
+      c.put-next.ensures c.walk-middle.ensures,
+)
 
 pub walk_seq-returns : goal.walk_seq-returns
-walk_seq-returns t c = seq-walked c.requires.given c.a_at-a.ensures c.b_at-b.ensures c.requires.k_value c.longest_first_part-first.ensures c.put-next.ensures c.walk-middle.ensures c.walk.ensures
+walk_seq-returns t c =
+    seq-walked c.requires.given c.a_at-a.ensures c.b_at-b.ensures c.requires.k_value c.longest_first_part-first.ensures
+    c.put-next.ensures c.walk-middle.ensures c.walk.ensures
 
 pub walk_star-count_iterations-times-requires : goal.walk_star-count_iterations-times-requires
 walk_star-count_iterations-times-requires t c = record { here = c.requires.given.here; area = c.requires.given.area; kind = c.requires.k_value }
@@ -148,10 +198,23 @@ pub walk_star-overflow_cast-times : goal.walk_star-overflow_cast-times
 walk_star-overflow_cast-times t c = omega (arith, count_small c.requires.given.here c.requires.k_value c.count_iterations-times.ensures)
 
 pub walk_star-put-next-requires : goal.walk_star-put-next-requires
-walk_star-put-next-requires t c = record { room = headed-room (star-headed c.requires.given.here c.requires.k_value c.count_iterations-times.ensures) c.requires.given; bytes = bytes-here c.requires.given.here }
+walk_star-put-next-requires t c =
+    record {
+      room = headed-room (star-headed c.requires.given.here c.requires.k_value c.count_iterations-times.ensures) c.requires.given;
+      bytes = bytes-here c.requires.given.here;
+    }
 
 pub walk_star-walk_iterations-requires : goal.walk_star-walk_iterations-requires
-walk_star-walk_iterations-requires t c = (omega (arith, c.decreases), (headed-given (star-headed c.requires.given.here c.requires.k_value c.count_iterations-times.ensures) c.requires.given c.put-next.ensures, c.requires.k_value))
+walk_star-walk_iterations-requires t c = (
+  omega (arith, c.decreases),
+  (
+    headed-given (star-headed c.requires.given.here c.requires.k_value c.count_iterations-times.ensures) c.requires.given
+        c.put-next.ensures,
+    c.requires.k_value,
+  ),
+)
 
 pub walk_star-returns : goal.walk_star-returns
-walk_star-returns t c = headed-walked (star-headed c.requires.given.here c.requires.k_value c.count_iterations-times.ensures) c.put-next.ensures c.walk_iterations.ensures
+walk_star-returns t c =
+    headed-walked (star-headed c.requires.given.here c.requires.k_value c.count_iterations-times.ensures) c.put-next.ensures
+    c.walk_iterations.ensures

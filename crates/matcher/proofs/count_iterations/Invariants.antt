@@ -1,9 +1,6 @@
 -- `matcher::count_iterations` meets its contract: what is counted and the iterations of what is left are those of the whole part.
 -- Assumes nothing.
-use native.Mathlib.Omega.{arith}
-use borrow.Author.Rules.{rules}
-use Rattle.matcher.proofs.Positions.{record-there, star-searched}
-use Rattle.matcher.proofs.Iterating.{Counting, counting-none, counting_more, counting-end}
+use Rattle.matcher.proofs.Iterating.{Counting}
 use Rattle.matcher.proofs.count_iterations.Given as goal
 
 abbrev pub invariant-loop-size : goal.invariant-loop-size

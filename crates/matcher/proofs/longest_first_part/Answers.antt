@@ -1,9 +1,7 @@
 -- `matcher::longest_first_part` meets its contract: the search goes downward, and no cut stands above the one it is at.
 -- Assumes nothing.
 use native.Mathlib.Omega.{arith}
-use mathlib.Core.Logic.{⊎_elim}
-use borrow.Author.Rules.{rules}
-use Rattle.matcher.proofs.Searching.{Searching, search-start, search-first, search-second, search-found, search-not-first, search-not-second, search-end}
+use Rattle.matcher.proofs.Searching.{search-start, search-first, search-second, search-found, search-not-first, search-not-second, search-end}
 use Rattle.matcher.proofs.longest_first_part.Goals.{then-tell+else-tell-2, else-tell}
 use Rattle.matcher.proofs.longest_first_part.Goals as goal
 
@@ -37,7 +35,7 @@ loop-cut-smaller c = omega (arith, c.loop-cut-test.true)
 pub loop-cut-preserved : goal.loop-cut-preserved
 loop-cut-preserved c =
     elim c.if-tell.branch [
-      then-tell+else-tell-2 w ↦ search-not-second c.requires c.loop-cut.invariant c.loop-cut-test.true w.tell-then-tell.ensures w.if-tell-2.false
+      | then-tell+else-tell-2 w ↦ search-not-second c.requires c.loop-cut.invariant c.loop-cut-test.true w.tell-then-tell.ensures w.if-tell-2.false
       | else-tell w ↦ search-not-first c.requires c.loop-cut.invariant c.loop-cut-test.true c.tell.ensures w.if-tell.false
     ]
 

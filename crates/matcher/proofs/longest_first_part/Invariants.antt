@@ -1,9 +1,6 @@
 -- `matcher::longest_first_part` meets its contract: the search goes downward, and no cut stands above the one it is at.
 -- Assumes nothing.
-use native.Mathlib.Omega.{arith}
-use mathlib.Core.Logic.{⊎_elim}
-use borrow.Author.Rules.{rules}
-use Rattle.matcher.proofs.Searching.{Searching, search-start, search-first, search-second, search-found, search-not-first, search-not-second, search-end}
+use Rattle.matcher.proofs.Searching.{Searching}
 use Rattle.matcher.proofs.longest_first_part.Given as goal
 
 abbrev pub invariant-loop-cut : goal.invariant-loop-cut

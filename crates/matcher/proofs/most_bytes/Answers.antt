@@ -3,7 +3,6 @@
 use Prim.Native.Nat.{max}
 use native.Mathlib.Omega.{arith}
 use mathlib.Core.Path.{◌≡◌}
-use borrow.Author.Rules.{rules}
 use Rattle.rows.proofs.Places.{offset-bound}
 use Rattle.matcher.proofs.most_bytes.Goals as goal
 

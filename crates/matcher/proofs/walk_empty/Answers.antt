@@ -1,7 +1,6 @@
 -- `matcher::walk_empty` meets its contract: an Empty's part reads as Void.
 -- Assumes nothing.
 use Rattle.matcher.proofs.Walking.{bytes-here, empty-room, empty_walked}
-use borrow.Author.Rules.{rules}
 use Rattle.matcher.proofs.walk_empty.Goals as goal
 
 pub put-requires : goal.put-requires

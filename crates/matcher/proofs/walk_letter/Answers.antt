@@ -2,7 +2,6 @@
 -- Assumes nothing.
 use native.Mathlib.Omega.{arith}
 use Rattle.matcher.proofs.Walking.{bytes-here, letter-one, letter-room, letter-walked}
-use borrow.Author.Rules.{rules}
 use Rattle.matcher.proofs.walk_letter.Goals as goal
 
 pub bounds-line-line : goal.bounds-line-line

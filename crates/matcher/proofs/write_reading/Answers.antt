@@ -2,17 +2,21 @@
 -- Assumes nothing.
 use native.Mathlib.Omega.{arith}
 use Rattle.matcher.proofs.Answering.{sizes-small, most-held, write-given, answer-done, count_given, answer-buffer, counted-held, answer-counted}
-use borrow.Author.Rules.{rules}
 use Rattle.matcher.proofs.write_reading.Goals as goal
 
 pub most_bytes-requires : goal.most_bytes-requires
 most_bytes-requires c = let x = sizes-small c.requires.here in record { m_bound = x.0; n_bound = x.1 }
 
 pub walk-end-requires : goal.walk-end-requires
-walk-end-requires c = write-given c.requires.here (most-held c.requires.here c.args.out.now (omega (arith, c.most_bytes.ensures, c.if-most_bytes-out.true))) c.requires.area
+walk-end-requires c =
+    write-given c.requires.here
+    (most-held c.requires.here c.args.out.now (omega (arith, c.most_bytes.ensures, c.if-most_bytes-out.true))) c.requires.area
 
 pub returns-then-most_bytes-out : goal.returns-then-most_bytes-out
-returns-then-most_bytes-out c = answer-done c.requires.here (most-held c.requires.here c.args.out.now (omega (arith, c.most_bytes.ensures, c.if-most_bytes-out.true))) c.walk-end.ensures
+returns-then-most_bytes-out c =
+    answer-done c.requires.here
+    (most-held c.requires.here c.args.out.now (omega (arith, c.most_bytes.ensures, c.if-most_bytes-out.true)))
+    c.walk-end.ensures
 
 pub walk-need-requires : goal.walk-need-requires
 walk-need-requires c = count_given c.requires.here _ c.requires.area

@@ -10,22 +10,22 @@ pub returns-then-priortokens-at : goal.returns-then-priortokens-at
 returns-then-priortokens-at c = names-differ c.args.prior.now (nth_token c.args.priortokens.now c.args.i) c.args.line.now (nth_token c.args.tokens.now c.args.i) c.if-priortokens-at.true
 
 pub overflow_cast-prior_start : goal.overflow_cast-prior_start
-overflow_cast-prior_start c = omega (arith, c.shared_slice_known-7-1.given (3 * c.args.i + 1))
+overflow_cast-prior_start c = omega (arith, c.type_inv.priortokens (3 * c.args.i + 1))
 
 pub overflow_cast-prior_end : goal.overflow_cast-prior_end
-overflow_cast-prior_end c = omega (arith, c.shared_slice_known-8-1.given (3 * c.args.i + 2))
+overflow_cast-prior_end c = omega (arith, c.type_inv.priortokens (3 * c.args.i + 2))
 
 pub overflow_add-prior_end-2 : goal.overflow_add-prior_end-2
-overflow_add-prior_end-2 c = omega (arith, c.shared_slice_known-7-1.given (3 * c.args.i + 1), c.shared_slice_known-8-1.given (3 * c.args.i + 2))
+overflow_add-prior_end-2 c = omega (arith, c.type_inv.priortokens (3 * c.args.i + 1), c.type_inv.priortokens (3 * c.args.i + 2))
 
 pub overflow_cast-start : goal.overflow_cast-start
-overflow_cast-start c = omega (arith, c.shared_slice_known-9-1.given (3 * c.args.i + 1))
+overflow_cast-start c = omega (arith, c.type_inv.tokens (3 * c.args.i + 1))
 
 pub overflow_cast-end : goal.overflow_cast-end
-overflow_cast-end c = omega (arith, c.shared_slice_known-10-1.given (3 * c.args.i + 2))
+overflow_cast-end c = omega (arith, c.type_inv.tokens (3 * c.args.i + 2))
 
 pub overflow_add-end-2 : goal.overflow_add-end-2
-overflow_add-end-2 c = omega (arith, c.shared_slice_known-9-1.given (3 * c.args.i + 1), c.shared_slice_known-10-1.given (3 * c.args.i + 2))
+overflow_add-end-2 c = omega (arith, c.type_inv.tokens (3 * c.args.i + 1), c.type_inv.tokens (3 * c.args.i + 2))
 
 pub slice_bounds-same_text-end : goal.slice_bounds-same_text-end
 slice_bounds-same_text-end c = omega (arith, c.requires.priorinside c.args.i c.requires.prior)

@@ -2,7 +2,6 @@
 -- Assumes nothing.
 use mathlib.Core.Path.{sym, ◌∙◌}
 use native.Mathlib.Omega.{arith}
-use borrow.Author.Tests.{not-true}
 use Rattle.page.proofs.Comparing.{tokens_none, tokens-lengths, tokens-differ, tokens-go-on, tokens-end}
 use Rattle.page.proofs.same_tokens.Goals as goal
 
@@ -16,10 +15,10 @@ pub same_token-requires : goal.same_token-requires
 same_token-requires c = record { prior = omega arith; own = omega arith; priorinside = c.requires.prior; inside = c.requires.own }
 
 pub returns-then-not-same_token : goal.returns-then-not-same_token
-returns-then-not-same_token c = tokens-differ c.args.prior.now c.args.priortokens.now c.args.line.now c.args.tokens.now c.loop-i.invariant.3 c.loop-i.invariant.2 (omega arith) (sym (not-true _ c.if-not-same_token.true-raw) ∙ c.same_token.ensures)
+returns-then-not-same_token c = tokens-differ c.args.prior.now c.args.priortokens.now c.args.line.now c.args.tokens.now c.loop-i.invariant.3 c.loop-i.invariant.2 (omega arith) (sym c.if-not-same_token.true ∙ c.same_token.ensures)
 
 pub loop-i-preserved : goal.loop-i-preserved
-loop-i-preserved c = (omega arith, omega arith, omega arith, tokens-go-on c.args.prior.now c.args.priortokens.now c.args.line.now c.args.tokens.now c.loop-i.invariant.3 c.loop-i.invariant.2 (omega arith) (sym (c.if-not-same_token.false) ∙ c.same_token.ensures))
+loop-i-preserved c = (omega arith, omega arith, omega arith, tokens-go-on c.args.prior.now c.args.priortokens.now c.args.line.now c.args.tokens.now c.loop-i.invariant.3 c.loop-i.invariant.2 (omega arith) (sym c.if-not-same_token.false ∙ c.same_token.ensures))
 
 pub returns : goal.returns
 returns c = tokens-end c.args.prior.now c.args.priortokens.now c.args.line.now c.args.tokens.now c.loop-i.invariant.3 c.loop-i.invariant.2 (omega arith)

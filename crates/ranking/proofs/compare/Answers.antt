@@ -1,7 +1,6 @@
 -- `ranking::compare` meets its contract: one law of Answering for each way out, and the precedence from each. Assumes nothing.
-use borrow.Author.Rules.{rules}
-use Rattle.reading.proofs.Admission.{Admitted, admitted}
-use Rattle.reading.proofs.Wholes.{Reading, whole-reading, whole-missing}
+use Rattle.reading.proofs.Admission.{admitted}
+use Rattle.reading.proofs.Wholes.{whole-reading, whole-missing}
 use Rattle.ranking.proofs.Answering.{compare-table, misfit-first, misfit-second, both-fit}
 use Rattle.ranking.proofs.CompareRanks.{with-precedence}
 use Rattle.ranking.proofs.compare.Goals as goal

@@ -1,7 +1,6 @@
 -- `ranking::earlier` meets its contract: what it hands back by what Compare says. Assumes nothing.
 use mathlib.Core.Path.{refl, sym, ◌∙◌}
 use native.Mathlib.Omega.{arith}
-use borrow.Author.Rules.{rules}
 use Rattle.ranking.proofs.Answering.{chosen-first, chosen-second, chosen-neither, first-second, first-neither, second-neither}
 use Rattle.ranking.proofs.earlier.Goals as goal
 

@@ -1,9 +1,7 @@
 -- `ranking::rank_records` meets its contract. The loop's invariant: the records so far agree. It falls with the bytes left. Assumes nothing.
-use Prim.Native.Nat.{◌≤◌, ◌-◌}
 use mathlib.Core.Logic.{inl, inr, ⊎_elim}
 use native.Mathlib.Omega.{arith}
-use borrow.Author.Rules.{rules}
-use Rattle.ranking.proofs.Verdicts.{Agreeing, agree-start, agree-ends, agree-next, agree-over}
+use Rattle.ranking.proofs.Verdicts.{agree-start, agree-ends, agree-next, agree-over}
 use Rattle.ranking.proofs.rank_records.Goals as goal
 
 pub loop-at-init : goal.loop-at-init

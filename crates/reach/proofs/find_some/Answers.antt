@@ -12,7 +12,8 @@ pub slice_bounds-spells_some-end : goal.slice_bounds-spells_some-end
 slice_bounds-spells_some-end c = omega (arith, c.loop-k.invariant.1.found.size)
 
 pub spells_some-spells-requires : goal.spells_some-spells-requires
-spells_some-spells-requires c = record { passes = c.requires.passes; k_bound = omega (arith, c.requires.end_bound); some_found = c.loop-k.invariant.1.found }
+spells_some-spells-requires c =
+    record { passes = c.requires.passes; k_bound = omega (arith, c.requires.end_bound); some_found = c.loop-k.invariant.1.found }
 
 pub slice_bounds-mark_if-end : goal.slice_bounds-mark_if-end
 slice_bounds-mark_if-end c = omega (arith, c.loop-k.invariant.1.found.size)

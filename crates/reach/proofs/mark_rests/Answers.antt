@@ -2,7 +2,6 @@
 -- Assumes nothing.
 use native.Mathlib.Omega.{arith}
 use mathlib.Core.Path.{sym, ◌∙◌}
-use borrow.Author.Tests.{not-true}
 use Rattle.reach.proofs.Marking.{marked-if, marked-if-not, rests-none, rests-more, rests-all}
 use Rattle.reach.proofs.mark_rests.Goals as goal
 
@@ -10,7 +9,7 @@ pub is_marked-requires : goal.is_marked-requires
 is_marked-requires c = omega (arith, c.requires.inside.short, c.requires.row_len)
 
 pub returns-then-not-is_marked : goal.returns-then-not-is_marked
-returns-then-not-is_marked c = marked-if-not (sym c.is_marked.ensures ∙ not-true _ c.if-not-is_marked.true-raw)
+returns-then-not-is_marked c = marked-if-not (sym c.is_marked.ensures ∙ c.if-not-is_marked.true)
 
 pub loop-e-init : goal.loop-e-init
 loop-e-init c = (omega arith, rests-none (omega arith))

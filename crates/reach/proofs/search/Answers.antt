@@ -14,16 +14,28 @@ pub loop-k-init : goal.loop-k-init
 loop-k-init c = (omega arith, c.requires.reaching)
 
 pub visit-requires : goal.visit-requires
-visit-requires c = record { known = c.requires.known; k_bound = omega (arith, c.requires.start_bound); some_found = some-fewer _ (omega arith) c.requires.some_found; marks_len = c.loop-k.invariant.1.size }
+visit-requires c =
+    record {
+      known = c.requires.known;
+      k_bound = omega (arith, c.requires.start_bound);
+      some_found = some-fewer _ (omega arith) c.requires.some_found;
+      marks_len = c.loop-k.invariant.1.size;
+    }
 
 pub shape_of-marks-then-visit : goal.shape_of-marks-then-visit
 shape_of-marks-then-visit c = c.visit.ensures.size ∙ c.loop-k.invariant.1.size ∙ sym c.requires.reaching.size
 
 pub returns-then-visit : goal.returns-then-visit
-returns-then-visit c = sym (search-found (search-at (c.loop-k.k - 1 + 1) (omega (arith, c.loop-k-test.true)) c.loop-k.invariant.1) c.visit.ensures c.if-visit.true)
+returns-then-visit c =
+    sym (search-found (search-at (c.loop-k.k - 1 + 1) (omega (arith, c.loop-k-test.true)) c.loop-k.invariant.1) c.visit.ensures
+    c.if-visit.true)
 
 pub loop-k-preserved : goal.loop-k-preserved
-loop-k-preserved c = (omega arith, search-on (search-at (c.loop-k.k - 1 + 1) (omega (arith, c.loop-k-test.true)) c.loop-k.invariant.1) c.visit.ensures c.if-visit.false)
+loop-k-preserved c = (
+  omega arith,
+  search-on (search-at (c.loop-k.k - 1 + 1) (omega (arith, c.loop-k-test.true)) c.loop-k.invariant.1) c.visit.ensures
+      c.if-visit.false,
+)
 
 pub shape_of-marks : goal.shape_of-marks
 shape_of-marks c = c.loop-k.invariant.1.size ∙ sym c.requires.reaching.size

@@ -19,7 +19,9 @@ pub is_marked-requires : goal.is_marked-requires
 is_marked-requires c = omega (arith, c.requires.some_found.size)
 
 pub returns-then-is_marked : goal.returns-then-is_marked
-returns-then-is_marked c = some-or-first c.args.table.now c.requires.passes c.args.k c.requires.k_bound c.kind_at-kind.ensures c.a_at-a.ensures c.b_at-b.ensures c.requires.some_found c.in-3.is (sym c.is_marked.ensures ∙ c.if-is_marked.true)
+returns-then-is_marked c =
+    some-or-first c.args.table.now c.requires.passes c.args.k c.requires.k_bound c.kind_at-kind.ensures c.a_at-a.ensures
+    c.b_at-b.ensures c.requires.some_found c.in-3.is (sym c.is_marked.ensures ∙ c.if-is_marked.true)
 
 pub is_marked-requires-in-3 : goal.is_marked-requires-in-3
 is_marked-requires-in-3 c = omega (arith, c.requires.some_found.size)
@@ -31,19 +33,34 @@ pub is_marked-requires-then-is_marked-2 : goal.is_marked-requires-then-is_marked
 is_marked-requires-then-is_marked-2 c = omega (arith, c.requires.some_found.size)
 
 pub returns-then-is_marked-2 : goal.returns-then-is_marked-2
-returns-then-is_marked-2 c = c.is_marked-then-is_marked-2.ensures ∙ some-seq-first c.args.table.now c.requires.passes c.args.k c.requires.k_bound c.kind_at-kind.ensures c.a_at-a.ensures c.b_at-b.ensures c.requires.some_found c.in-4.is (sym c.is_marked-in-4.ensures ∙ c.if-is_marked-2.true)
+returns-then-is_marked-2 c =
+    c.is_marked-then-is_marked-2.ensures ∙ some-seq-first c.args.table.now c.requires.passes c.args.k c.requires.k_bound
+    c.kind_at-kind.ensures c.a_at-a.ensures c.b_at-b.ensures c.requires.some_found c.in-4.is
+    (sym c.is_marked-in-4.ensures ∙ c.if-is_marked-2.true)
 
 pub returns-in-1 : goal.returns-in-1
-returns-in-1 c = some-unit c.args.table.now c.requires.passes c.args.k c.requires.k_bound c.kind_at-kind.ensures c.a_at-a.ensures c.b_at-b.ensures c.requires.some_found c.in-1.is
+returns-in-1 c =
+    some-unit c.args.table.now c.requires.passes c.args.k c.requires.k_bound c.kind_at-kind.ensures c.a_at-a.ensures
+    c.b_at-b.ensures c.requires.some_found c.in-1.is
 
 pub returns-in-2 : goal.returns-in-2
-returns-in-2 c = c.letter_holds_some.ensures ∙ some-letter c.args.table.now c.requires.passes c.args.k c.requires.k_bound c.kind_at-kind.ensures c.a_at-a.ensures c.b_at-b.ensures c.requires.some_found c.in-2.is
+returns-in-2 c =
+    c.letter_holds_some.ensures ∙ some-letter c.args.table.now c.requires.passes c.args.k c.requires.k_bound
+    c.kind_at-kind.ensures c.a_at-a.ensures c.b_at-b.ensures c.requires.some_found c.in-2.is
 
 pub returns-else-is_marked : goal.returns-else-is_marked
-returns-else-is_marked c = c.is_marked-in-3.ensures ∙ some-or-second c.args.table.now c.requires.passes c.args.k c.requires.k_bound c.kind_at-kind.ensures c.a_at-a.ensures c.b_at-b.ensures c.requires.some_found c.in-3.is (sym c.is_marked.ensures ∙ c.if-is_marked.false)
+returns-else-is_marked c =
+    c.is_marked-in-3.ensures ∙ some-or-second c.args.table.now c.requires.passes c.args.k c.requires.k_bound
+    c.kind_at-kind.ensures c.a_at-a.ensures c.b_at-b.ensures c.requires.some_found c.in-3.is
+    (sym c.is_marked.ensures ∙ c.if-is_marked.false)
 
 pub returns-else-is_marked-2 : goal.returns-else-is_marked-2
-returns-else-is_marked-2 c = some-seq-none c.args.table.now c.requires.passes c.args.k c.requires.k_bound c.kind_at-kind.ensures c.a_at-a.ensures c.b_at-b.ensures c.requires.some_found c.in-4.is (sym c.is_marked-in-4.ensures ∙ c.if-is_marked-2.false)
+returns-else-is_marked-2 c =
+    some-seq-none c.args.table.now c.requires.passes c.args.k c.requires.k_bound c.kind_at-kind.ensures c.a_at-a.ensures
+    c.b_at-b.ensures c.requires.some_found c.in-4.is (sym c.is_marked-in-4.ensures ∙ c.if-is_marked-2.false)
 
 pub returns-in_default : goal.returns-in_default
-returns-in_default c = some-rest c.args.table.now c.requires.passes c.args.k c.requires.k_bound c.kind_at-kind.ensures c.a_at-a.ensures c.b_at-b.ensures c.requires.some_found c.in_default.in_default-own.rest.0.0.0.1 c.in_default.in_default-own.rest.0.0.1 c.in_default.in_default-own.rest.0.1 c.in_default.in_default-own.rest.1
+returns-in_default c =
+    some-rest c.args.table.now c.requires.passes c.args.k c.requires.k_bound c.kind_at-kind.ensures c.a_at-a.ensures
+    c.b_at-b.ensures c.requires.some_found (omega arith) (omega arith) (omega arith)
+    (omega arith)

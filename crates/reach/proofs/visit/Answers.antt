@@ -25,31 +25,50 @@ pub slice_bounds-visit_letter-end : goal.slice_bounds-visit_letter-end
 slice_bounds-visit_letter-end c = sym c.copy_marks.ensures.size
 
 pub visit_letter-requires : goal.visit_letter-requires
-visit_letter-requires c = record { visiting = visiting c.requires.known c.requires.k_bound c.requires.marks_len refl c.copy_marks.ensures; k_value = letter_at c.args.table.now c.args.k c.kind_at-kind.ensures c.in-2.is }
+visit_letter-requires c =
+    record {
+      visiting = visiting c.requires.known c.requires.k_bound c.requires.marks_len refl c.copy_marks.ensures;
+      k_value = letter_at c.args.table.now c.args.k c.kind_at-kind.ensures c.in-2.is;
+    }
 
 pub slice_bounds-visit_or-end : goal.slice_bounds-visit_or-end
 slice_bounds-visit_or-end c = sym c.copy_marks.ensures.size
 
 pub visit_or-requires : goal.visit_or-requires
-visit_or-requires c = record { visiting = visiting c.requires.known c.requires.k_bound c.requires.marks_len refl c.copy_marks.ensures; k_value = sym c.kind_at-kind.ensures ∙ c.in-3.is }
+visit_or-requires c =
+    record {
+      visiting = visiting c.requires.known c.requires.k_bound c.requires.marks_len refl c.copy_marks.ensures;
+      k_value = sym c.kind_at-kind.ensures ∙ c.in-3.is;
+    }
 
 pub slice_bounds-visit_seq-end : goal.slice_bounds-visit_seq-end
 slice_bounds-visit_seq-end c = sym c.copy_marks.ensures.size
 
 pub visit_seq-requires : goal.visit_seq-requires
-visit_seq-requires c = record { visiting = visiting c.requires.known c.requires.k_bound c.requires.marks_len refl c.copy_marks.ensures; some_found = c.requires.some_found; k_value = sym c.kind_at-kind.ensures ∙ c.in-4.is }
+visit_seq-requires c =
+    record {
+      visiting = visiting c.requires.known c.requires.k_bound c.requires.marks_len refl c.copy_marks.ensures;
+      some_found = c.requires.some_found;
+      k_value = sym c.kind_at-kind.ensures ∙ c.in-4.is;
+    }
 
 pub slice_bounds-visit_star-end : goal.slice_bounds-visit_star-end
 slice_bounds-visit_star-end c = sym c.copy_marks.ensures.size
 
 pub visit_star-requires : goal.visit_star-requires
-visit_star-requires c = record { visiting = visiting c.requires.known c.requires.k_bound c.requires.marks_len refl c.copy_marks.ensures; k_value = sym c.kind_at-kind.ensures ∙ c.in-5.is }
+visit_star-requires c =
+    record {
+      visiting = visiting c.requires.known c.requires.k_bound c.requires.marks_len refl c.copy_marks.ensures;
+      k_value = sym c.kind_at-kind.ensures ∙ c.in-5.is;
+    }
 
 pub shape_of-marks-in-1 : goal.shape_of-marks-in-1
 shape_of-marks-in-1 c = refl
 
 pub returns-in-1 : goal.returns-in-1
-returns-in-1 c = empty-visited (visiting c.requires.known c.requires.k_bound c.requires.marks_len refl c.copy_marks.ensures) (sym c.kind_at-kind.ensures ∙ c.in-1.is) _ c.is_marked.ensures
+returns-in-1 c =
+    empty-visited (visiting c.requires.known c.requires.k_bound c.requires.marks_len refl c.copy_marks.ensures)
+    (sym c.kind_at-kind.ensures ∙ c.in-1.is) _ c.is_marked.ensures
 
 pub shape_of-marks-in-2 : goal.shape_of-marks-in-2
 shape_of-marks-in-2 c = refl
@@ -79,4 +98,7 @@ pub shape_of-marks-in_default : goal.shape_of-marks-in_default
 shape_of-marks-in_default c = refl
 
 pub returns-in_default : goal.returns-in_default
-returns-in_default c = nothing-visited (visiting c.requires.known c.requires.k_bound c.requires.marks_len refl c.copy_marks.ensures) (kind-nothing _ c.requires.known.passes _ c.requires.k_bound c.kind_at-kind.ensures c.in_default.in_default-own.rest.0.0.0.0.1 c.in_default.in_default-own.rest.0.0.0.1 c.in_default.in_default-own.rest.0.0.1 c.in_default.in_default-own.rest.0.1 c.in_default.in_default-own.rest.1)
+returns-in_default c =
+    nothing-visited (visiting c.requires.known c.requires.k_bound c.requires.marks_len refl c.copy_marks.ensures)
+    (kind-nothing _ c.requires.known.passes _ c.requires.k_bound c.kind_at-kind.ensures
+    (omega arith) (omega arith) (omega arith) (omega arith) (omega arith))

@@ -18,10 +18,17 @@ pub is_marked-requires : goal.is_marked-requires
 is_marked-requires c = omega (arith, c.requires.visiting.own.size)
 
 pub returns-then-n-eq0 : goal.returns-then-n-eq0
-returns-then-n-eq0 c = letter-visited c.requires.visiting c.requires.k_value _ (found-no-line c.args.table.now c.args.line.now c.args.k c.args.row.now c.kind_at-kind.ensures c.a_at-a.ensures c.b_at-b.ensures c.is_marked.ensures c.letter_holds_some.ensures (omega (arith, c.if-n-eq0.true)))
+returns-then-n-eq0 c =
+    letter-visited c.requires.visiting c.requires.k_value _
+    (found-no-line c.args.table.now c.args.line.now c.args.k c.args.row.now c.kind_at-kind.ensures c.a_at-a.ensures
+    c.b_at-b.ensures c.is_marked.ensures c.letter_holds_some.ensures (omega (arith, c.if-n-eq0.true)))
 
 pub is_marked-requires-2 : goal.is_marked-requires-2
 is_marked-requires-2 c = omega (arith, c.requires.visiting.own.size)
 
 pub returns : goal.returns
-returns c = letter-visited c.requires.visiting c.requires.k_value _ (found-line c.args.table.now c.args.line.now c.args.k c.args.row.now c.kind_at-kind.ensures c.a_at-a.ensures c.b_at-b.ensures c.is_marked.ensures c.letter_holds_some.ensures (omega arith) c.is_marked-2.ensures c.letter_holds.ensures)
+returns c =
+    letter-visited c.requires.visiting c.requires.k_value _
+    (found-line c.args.table.now c.args.line.now c.args.k c.args.row.now c.kind_at-kind.ensures c.a_at-a.ensures
+    c.b_at-b.ensures c.is_marked.ensures c.letter_holds_some.ensures (omega arith) c.is_marked-2.ensures
+    c.letter_holds.ensures)

@@ -13,7 +13,14 @@ pub b_at-b-requires : goal.b_at-b-requires
 b_at-b-requires c = omega (arith, count-bound _ c.requires.visiting.known.passes, c.requires.visiting.inside)
 
 pub mark_row_rests-requires : goal.mark_row_rests-requires
-mark_row_rests-requires c = record { inside = visiting-row c.requires.visiting (omega (arith, c.requires.visiting.inside, seq-first c.requires.visiting c.requires.k_value c.a_at-a.ensures)); row_len = c.requires.visiting.own.size; to_bound = omega arith; marks_len = c.requires.visiting.size }
+mark_row_rests-requires c =
+    record {
+      inside = visiting-row c.requires.visiting
+          (omega (arith, c.requires.visiting.inside, seq-first c.requires.visiting c.requires.k_value c.a_at-a.ensures));
+      row_len = c.requires.visiting.own.size;
+      to_bound = omega arith;
+      marks_len = c.requires.visiting.size;
+    }
 
 pub is_marked-requires : goal.is_marked-requires
 is_marked-requires c = omega (arith, c.requires.some_found.size)
@@ -25,10 +32,16 @@ pub shape_of-marks-then-is_marked : goal.shape_of-marks-then-is_marked
 shape_of-marks-then-is_marked c = c.join_marks.ensures.size ∙ c.mark_row_rests.ensures.size
 
 pub returns-then-is_marked : goal.returns-then-is_marked
-returns-then-is_marked c = seq-visited-some c.requires.visiting c.requires.k_value c.a_at-a.ensures c.b_at-b.ensures (sym (c.requires.some_found.found _ (seq-second c.requires.visiting c.requires.k_value c.b_at-b.ensures)) ∙ sym c.is_marked.ensures ∙ c.if-is_marked.true) c.mark_row_rests.ensures c.join_marks.ensures
+returns-then-is_marked c =
+    seq-visited-some c.requires.visiting c.requires.k_value c.a_at-a.ensures c.b_at-b.ensures
+    (sym (c.requires.some_found.found _ (seq-second c.requires.visiting c.requires.k_value c.b_at-b.ensures)) ∙ sym
+    c.is_marked.ensures ∙ c.if-is_marked.true) c.mark_row_rests.ensures c.join_marks.ensures
 
 pub shape_of-marks : goal.shape_of-marks
 shape_of-marks c = c.mark_row_rests.ensures.size
 
 pub returns : goal.returns
-returns c = seq-visited c.requires.visiting c.requires.k_value c.a_at-a.ensures c.b_at-b.ensures (sym (c.requires.some_found.found _ (seq-second c.requires.visiting c.requires.k_value c.b_at-b.ensures)) ∙ sym c.is_marked.ensures ∙ c.if-is_marked.false) c.mark_row_rests.ensures
+returns c =
+    seq-visited c.requires.visiting c.requires.k_value c.a_at-a.ensures c.b_at-b.ensures
+    (sym (c.requires.some_found.found _ (seq-second c.requires.visiting c.requires.k_value c.b_at-b.ensures)) ∙ sym
+    c.is_marked.ensures ∙ c.if-is_marked.false) c.mark_row_rests.ensures

@@ -16,10 +16,19 @@ pub a_at-a-requires : goal.a_at-a-requires
 a_at-a-requires c = omega (arith, count-bound _ c.requires.visiting.known.passes, c.requires.visiting.inside)
 
 pub mark_row_rests-requires : goal.mark_row_rests-requires
-mark_row_rests-requires c = record { inside = visiting-row c.requires.visiting (omega (arith, c.requires.visiting.inside, star-first c.requires.visiting c.requires.k_value c.a_at-a.ensures)); row_len = c.requires.visiting.own.size; to_bound = omega arith; marks_len = c.requires.visiting.size }
+mark_row_rests-requires c =
+    record {
+      inside = visiting-row c.requires.visiting
+          (omega (arith, c.requires.visiting.inside, star-first c.requires.visiting c.requires.k_value c.a_at-a.ensures));
+      row_len = c.requires.visiting.own.size;
+      to_bound = omega arith;
+      marks_len = c.requires.visiting.size;
+    }
 
 pub shape_of-marks : goal.shape_of-marks
 shape_of-marks c = c.mark_row_rests.ensures.size
 
 pub returns : goal.returns
-returns c = star-visited c.requires.visiting c.requires.k_value c.a_at-a.ensures (sym c.is_marked.ensures ∙ c.if-is_marked.false) c.mark_row_rests.ensures
+returns c =
+    star-visited c.requires.visiting c.requires.k_value c.a_at-a.ensures (sym c.is_marked.ensures ∙ c.if-is_marked.false)
+    c.mark_row_rests.ensures

@@ -1,5 +1,4 @@
 -- `reading::admit` meets its contract: one law of Admission for each way out. Assumes nothing.
-use borrow.Author.Rules.{rules}
 use Rattle.reading.proofs.Admission.{admit-done, admit-start, admit-table}
 use Rattle.reading.proofs.admit.Goals as goal
 

@@ -1,4 +1,5 @@
 -- `reading::shape_of` meets its contract: one law of Shapes for each way out. Assumes nothing.
+use native.Mathlib.Omega.{arith}
 use mathlib.Core.Path.{sym, ◌∙◌}
 use Rattle.reading.proofs.Shapes.{empty-argument, empty-kind, empty_leaf, letter-argument, letter-kind, letter-leaf, no_kind, or-argument, or-kind, or_left, or_right, seq-argument, seq-both, seq-kind, star-kind, star-many}
 use Rattle.reading.proofs.shape_of.Goals as goal
@@ -49,4 +50,5 @@ pub returns-else-x-eq-STARS : goal.returns-else-x-eq-STARS
 returns-else-x-eq-STARS c = star-kind _ _ _ _ _ c.in-5.is c.if-x-eq-STARS.false
 
 pub returns-in_default : goal.returns-in_default
-returns-in_default c = no_kind _ _ _ _ _ c.in_default.in_default-own.rest.0.0.0.0.1 c.in_default.in_default-own.rest.0.0.0.1 c.in_default.in_default-own.rest.0.0.1 c.in_default.in_default-own.rest.0.1 c.in_default.in_default-own.rest.1
+returns-in_default c =
+    no_kind c.args.kind c.args.a c.args.b c.args.x c.args.y (grind arith) (grind arith) (grind arith) (grind arith) (grind arith)

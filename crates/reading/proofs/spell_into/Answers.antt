@@ -1,43 +1,35 @@
 -- `reading::spell_into` meets its contract. The loop's invariant is Copying: what the records before the place spell stands in front. The
 -- measure is what is left of the reading. Assumes nothing.
-use Prim.Native.Nat.{◌-◌}
 use native.Mathlib.Omega.{arith}
-use mathlib.Core.Logic.{⊎_elim}
 use mathlib.Core.Path.{sym, ◌∙◌}
-use lib.ListN.{length}
-use Rattle.reading.proofs.Copying.{Copying, copy_start, copy-byte, copy-other, copy-room, copy-end, copy-length}
+use Rattle.reading.proofs.Copying.{copy_start, copy-byte, copy-other, copy-room, copy-end, copy-length}
 use Rattle.reading.proofs.spell_into.Goals as goal
 use Rattle.reading.proofs.spell_into.Goals.{then-kind-eq-BYTE, else-kind-eq-BYTE}
 
 pub loop-at-init : goal.loop-at-init
 loop-at-init c = copy_start c.args.reading.now c.args.out.now c.requires
 
-pub overflow_sub-n : goal.overflow_sub-n
-overflow_sub-n c = omega (arith, c.loop-at.invariant.placed)
-
-pub record_kind-kind-requires : goal.record_kind-kind-requires
-record_kind-kind-requires c = omega (arith, c.loop-at.invariant.placed)
-
-pub record_argument-argument-requires : goal.record_argument-argument-requires
-record_argument-argument-requires c = omega (arith, c.loop-at.invariant.placed)
-
 pub bounds-out-size : goal.bounds-out-size
-bounds-out-size c = copy-room c.loop-at.invariant (omega (arith, c.loop-at.invariant.placed)) (sym c.record_kind-kind.ensures ∙ c.if-kind-eq-BYTE.true)
+bounds-out-size c =
+    copy-room c.loop-at.invariant (omega (arith, c.loop-at.invariant.placed)) (sym c.record_kind-kind.ensures ∙ c.if-kind-eq-BYTE.true)
 
 pub overflow_add-size : goal.overflow_add-size
-overflow_add-size c = omega (arith, copy-room c.loop-at.invariant (omega (arith, c.loop-at.invariant.placed)) (sym c.record_kind-kind.ensures ∙ c.if-kind-eq-BYTE.true), copy-length c.loop-at.invariant, c.well_formed)
-
-pub overflow_add-at : goal.overflow_add-at
-overflow_add-at c = omega (arith, c.loop-at.invariant.placed)
-
-pub loop-at-smaller : goal.loop-at-smaller
-loop-at-smaller c = omega (arith, c.loop-at.invariant.placed)
+overflow_add-size c =
+    omega (
+      arith,
+      copy-room c.loop-at.invariant (omega (arith, c.loop-at.invariant.placed))
+          (sym c.record_kind-kind.ensures ∙ c.if-kind-eq-BYTE.true),
+      copy-length c.loop-at.invariant,
+      c.well_formed,
+    )
 
 pub loop-at-preserved : goal.loop-at-preserved
 loop-at-preserved c =
     elim c.if-kind-eq-BYTE.branch [
-      then-kind-eq-BYTE w ↦ copy-byte c.loop-at.invariant (omega (arith, c.loop-at.invariant.placed)) (sym c.record_kind-kind.ensures ∙ w.if-kind-eq-BYTE.true) w.out-is c.record_argument-argument.ensures w.size-is
-      | else-kind-eq-BYTE w ↦ copy-other c.loop-at.invariant (omega (arith, c.loop-at.invariant.placed)) (λ z. w.if-kind-eq-BYTE.false (c.record_kind-kind.ensures ∙ z)) w.out-is w.size-is
+      | then-kind-eq-BYTE w ↦ copy-byte c.loop-at.invariant (omega (arith, c.loop-at.invariant.placed))
+          (sym c.record_kind-kind.ensures ∙ w.if-kind-eq-BYTE.true) w.out-is c.record_argument-argument.ensures w.size-is
+      | else-kind-eq-BYTE w ↦ copy-other c.loop-at.invariant (omega (arith, c.loop-at.invariant.placed))
+          (λ z. w.if-kind-eq-BYTE.false (c.record_kind-kind.ensures ∙ z)) w.out-is w.size-is
     ]
 
 pub shape_of-out : goal.shape_of-out

@@ -1,11 +1,8 @@
 -- `reading::spell_into` meets its contract. The loop's invariant is Copying: what the records before the place spell stands in front. The
 -- measure is what is left of the reading. Assumes nothing.
 use Prim.Native.Nat.{◌-◌}
-use native.Mathlib.Omega.{arith}
-use mathlib.Core.Logic.{⊎_elim}
-use mathlib.Core.Path.{sym, ◌∙◌}
 use lib.ListN.{length}
-use Rattle.reading.proofs.Copying.{Copying, copy_start, copy-byte, copy-other, copy-room, copy-end, copy-length}
+use Rattle.reading.proofs.Copying.{Copying}
 use Rattle.reading.proofs.spell_into.Given as goal
 
 abbrev pub invariant-loop-at : goal.invariant-loop-at

@@ -1,5 +1,4 @@
 -- `reading::store_record` meets its contract. Assumes nothing.
-use borrow.Author.Rules.{rules}
 use Rattle.reading.proofs.Storing.{room-2, room-3, room-4, stored_bytes}
 use Rattle.reading.proofs.store_record.Goals as goal
 

@@ -1,11 +1,8 @@
 -- `report::put_tokens` meets its contract. The loop's invariant: the lines of the first i tokens are written, in at most 12 bytes each; the measure is
 -- the tokens left. Assumes nothing.
-use Prim.Native.Nat.{◌+◌, ◌*◌, ◌-◌, ◌≤◌}
 use native.Mathlib.Omega.{arith}
-use Rattle.report.specs.Report.{token_lines}
-use Rattle.printing.specs.Writes.{Wrote}
 use Rattle.printing.proofs.Writes.{wrote-length, wrote_none}
-use Rattle.report.proofs.TokenLines.{first_tokens, token-room, lines_more, lines-all}
+use Rattle.report.proofs.TokenLines.{token-room, lines_more, lines-all}
 use Rattle.report.proofs.put_tokens.Goals as goal
 
 pub loop-i-init : goal.loop-i-init
@@ -39,10 +36,20 @@ pub put_token-next-requires : goal.put_token-next-requires
 put_token-next-requires c = omega (arith, c.requires.tokens, c.requires.room, wrote-length c.loop-i.invariant.2)
 
 pub loop-i-preserved : goal.loop-i-preserved
-loop-i-preserved c = (omega arith, omega (arith, token-room c.args.tokens.now _ _ c.loop-i.i _ _ c.put_token-next.ensures (λ j. omega (arith, c.type_inv.tokens j))), lines_more c.args.tokens.now _ _ _ _ c.loop-i.i _ _ c.loop-i.invariant.2 c.put_token-next.ensures)
+loop-i-preserved c = (
+  omega arith,
+  omega (arith, token-room c.args.tokens.now _ _ c.loop-i.i _ _ c.put_token-next.ensures (λ j. omega (arith, c.type_inv.tokens j))),
+  lines_more c.args.tokens.now _ _ _ _ c.loop-i.i _ _ c.loop-i.invariant.2 c.put_token-next.ensures,
+)
 
 pub shape_of-out : goal.shape_of-out
 shape_of-out c = wrote-length c.loop-i.invariant.2
 
 pub returns : goal.returns
-returns c = record { bound = omega arith; lines = λ xs e. lines-all c.args.tokens.now _ _ _ c.args.count c.loop-i.i _ c.loop-i.invariant.2 (omega arith) (omega (arith, c.requires.tokens, c.requires.room)) xs e }
+returns c =
+    record {
+      bound = omega arith;
+      lines = λ xs e.
+          lines-all c.args.tokens.now _ _ _ c.args.count c.loop-i.i _ c.loop-i.invariant.2 (omega arith)
+          (omega (arith, c.requires.tokens, c.requires.room)) xs e;
+    }

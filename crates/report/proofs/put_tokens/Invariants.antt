@@ -1,11 +1,9 @@
 -- `report::put_tokens` meets its contract. The loop's invariant: the lines of the first i tokens are written, in at most 12 bytes each; the measure is
 -- the tokens left. Assumes nothing.
 use Prim.Native.Nat.{◌+◌, ◌*◌, ◌-◌, ◌≤◌}
-use native.Mathlib.Omega.{arith}
 use Rattle.report.specs.Report.{token_lines}
 use Rattle.printing.specs.Writes.{Wrote}
-use Rattle.printing.proofs.Writes.{wrote-length, wrote_none}
-use Rattle.report.proofs.TokenLines.{first_tokens, token-room, lines_more, lines-all}
+use Rattle.report.proofs.TokenLines.{first_tokens}
 use Rattle.report.proofs.put_tokens.Given as goal
 
 abbrev pub invariant-loop-i : goal.invariant-loop-i

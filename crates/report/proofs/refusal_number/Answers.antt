@@ -1,6 +1,5 @@
 -- `report::refusal_number` meets its contract: a refusal has one number. Assumes nothing.
 use mathlib.Core.Path.{◌≡◌, ◌∙◌}
-use borrow.Author.Rules.{rules}
 use Rattle.table.specs.Answers.{refuses}
 use Rattle.report.proofs.refusal_number.Goals as goal
 

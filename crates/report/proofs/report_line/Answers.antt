@@ -1,9 +1,6 @@
 -- `report::report_line` meets its contract: the lines of the tokens that Lex gave after the line's own, or the refusal. Assumes nothing.
-use mathlib.Core.List.{List}
 use native.Mathlib.Omega.{arith}
-use borrow.Author.Rules.{rules}
 use lib.ListN.{length}
-use Rattle.tokens.specs.Tokens.{Token}
 use Rattle.lexer.specs.Lexing.{tokens_of}
 use Rattle.lexer.proofs.Lexing.{Lexed, lexed}
 use Rattle.printing.proofs.Writes.{wrote-length}
@@ -25,7 +22,8 @@ returns-in-Done c =
     let x : Lexed c.args.table.now c.args.start c.args.line.now c.args.tokens.now c.lex.new.tokens c.in-Done.count =
     lexed c.args.table.now c.args.start c.args.line.now (length c.args.work.now) (length c.args.reading.now) c.args.tokens.now
     c.lex.ensures.answer c.in-Done.is c.lex.ensures.buffer in
-    let y = line_read _ _ _ c.args.number c.requires.work c.requires.reading c.requires.tokens c.lex.ensures.answer c.in-Done.is x.counted c.put_ok-at.ensures.line
+    let y = line_read _ _ _ c.args.number c.requires.work c.requires.reading c.requires.tokens c.lex.ensures.answer c.in-Done.is
+    x.counted c.put_ok-at.ensures.line
     (c.put_tokens.ensures.lines (tokens_of c.args.table.now c.args.start c.args.line.now) x.front)
     (omega (arith, x.few, c.put_ok-at.ensures.bound, c.put_tokens.ensures.bound)) c.requires.out in
     record { bound = y.0; size = y.1.0; buffer = y.1.1 }

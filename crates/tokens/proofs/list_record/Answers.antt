@@ -1,58 +1,57 @@
 -- `tokens::list_record` meets its contract: one law of Walks for each way out. Assumes nothing.
-use Prim.Native.Nat.{◌≤◌, ◌<◌}
-use mathlib.Core.Path.{◌∙◌, ap}
+use Prim.Native.Nat.{ℕ}
+use mathlib.Core.List.{List}
+use mathlib.Core.Path.{◌≡◌, ◌∙◌, ap}
 use native.Mathlib.Omega.{arith}
-use borrow.Author.Rules.{rules}
 use Rattle.table.specs.Records.{tag_at}
-use Rattle.reading.specs.Codec.{record_at}
-use Rattle.tokens.specs.declared.Listing.{Listing}
+use Rattle.reading.specs.Codec.{Record, record_at}
 use Rattle.tokens.specs.Walks.{width}
 use Rattle.tokens.proofs.Walks.{Fields, width_small, pass-untagged, pass-empty, pass-inside, pass-room, pass-token}
 use Rattle.tokens.proofs.list_record.Goals as goal
+
+-- what the calls read of the record
+fields : (t : List ℕ) (r : Record) {number tag size kind own : ℕ} → number ≡ r.number → tag ≡ tag_at t number → size ≡ r.size → kind ≡ r.kind
+    → own ≡ width kind → Fields t r tag size own
+fields t r n e f k g = record { tagged = e ∙ ap (tag_at t) n; spells = f; moves = g ∙ ap width k }
 
 pub overflow_add-next : goal.overflow_add-next
 overflow_add-next c = omega (arith, width_small c.record_kind-kind.result, c.width_of.ensures)
 
 pub returns-then-tag-eq0 : goal.returns-then-tag-eq0
-returns-then-tag-eq0 c = pass-untagged ((
-    record {
-      tagged = c.tag_at-tag.ensures ∙ ap (tag_at c.args.table.now) c.record_number-number.ensures;
-      spells = c.record_length-size.ensures.length;
-      moves = c.width_of.ensures ∙ ap width c.record_kind-kind.ensures;
-    })) ((c.args.listing)) (omega (arith, c.if-tag-eq0.true))
+returns-then-tag-eq0 c =
+    let f = fields c.args.table.now (record_at c.args.reading.now c.args.at) c.record_number-number.ensures c.tag_at-tag.ensures
+    c.record_length-size.ensures.length c.record_kind-kind.ensures c.width_of.ensures in
+    pass-untagged f c.args.listing (omega arith)
 
 pub returns-then-size-eq0 : goal.returns-then-size-eq0
-returns-then-size-eq0 c = pass-empty ((
-    record {
-      tagged = c.tag_at-tag.ensures ∙ ap (tag_at c.args.table.now) c.record_number-number.ensures;
-      spells = c.record_length-size.ensures.length;
-      moves = c.width_of.ensures ∙ ap width c.record_kind-kind.ensures;
-    })) ((c.args.listing)) (omega (arith, c.if-size-eq0.true))
+returns-then-size-eq0 c =
+    let f = fields c.args.table.now (record_at c.args.reading.now c.args.at) c.record_number-number.ensures c.tag_at-tag.ensures
+    c.record_length-size.ensures.length c.record_kind-kind.ensures c.width_of.ensures in
+    pass-empty f c.args.listing (omega arith)
 
 pub returns-then-offset-end : goal.returns-then-offset-end
-returns-then-offset-end c = pass-inside ((
-    record {
-      tagged = c.tag_at-tag.ensures ∙ ap (tag_at c.args.table.now) c.record_number-number.ensures;
-      spells = c.record_length-size.ensures.length;
-      moves = c.width_of.ensures ∙ ap width c.record_kind-kind.ensures;
-    })) ((c.args.listing)) (omega (arith, c.if-offset-end.true))
+returns-then-offset-end c =
+    let f = fields c.args.table.now (record_at c.args.reading.now c.args.at) c.record_number-number.ensures c.tag_at-tag.ensures
+    c.record_length-size.ensures.length c.record_kind-kind.ensures c.width_of.ensures in
+    pass-inside f c.args.listing (omega arith)
 
 pub put-behind-requires : goal.put-behind-requires
-put-behind-requires c = record { bytes = (omega (arith, c.requires.given.near, c.record_length-size.ensures.byte), c.record_length-size.ensures.byte); low = c.requires.given.low; room = pass-room ((
+put-behind-requires c =
+    let f = fields c.args.table.now (record_at c.args.reading.now c.args.at) c.record_number-number.ensures c.tag_at-tag.ensures
+    c.record_length-size.ensures.length c.record_kind-kind.ensures c.width_of.ensures in
     record {
-      tagged = c.tag_at-tag.ensures ∙ ap (tag_at c.args.table.now) c.record_number-number.ensures;
-      spells = c.record_length-size.ensures.length;
-      moves = c.width_of.ensures ∙ ap width c.record_kind-kind.ensures;
-    })) ((c.args.listing)) ((omega (arith, c.if-tag-eq0.false))) ((omega (arith, c.if-size-eq0.false))) ((omega (arith, c.if-offset-end.false))) c.requires.given }
+      bytes = (omega (arith, c.requires.given.near, c.record_length-size.ensures.byte), c.record_length-size.ensures.byte);
+      low = c.requires.given.low;
+      room = pass-room f c.args.listing (omega arith) (omega arith) (omega arith) c.requires.given;
+    }
 
 pub overflow_add-result : goal.overflow_add-result
-overflow_add-result c = omega (arith, c.requires.given.near, c.record_length-size.ensures.byte, width_small c.record_kind-kind.result, c.width_of.ensures)
+overflow_add-result c =
+    omega (arith, c.requires.given.near, c.record_length-size.ensures.byte, width_small c.record_kind-kind.result, c.width_of.ensures)
 
 pub returns : goal.returns
 returns c =
-    pass-token ((
-    record {
-      tagged = c.tag_at-tag.ensures ∙ ap (tag_at c.args.table.now) c.record_number-number.ensures;
-      spells = c.record_length-size.ensures.length;
-      moves = c.width_of.ensures ∙ ap width c.record_kind-kind.ensures;
-    })) ((c.args.listing)) ((omega (arith, c.if-tag-eq0.false))) ((omega (arith, c.if-size-eq0.false))) ((omega (arith, c.if-offset-end.false))) (omega arith) (omega (arith, c.put-behind.ensures.index)) c.put-behind.ensures.buffer
+    let f = fields c.args.table.now (record_at c.args.reading.now c.args.at) c.record_number-number.ensures c.tag_at-tag.ensures
+    c.record_length-size.ensures.length c.record_kind-kind.ensures c.width_of.ensures in
+    pass-token f c.args.listing (omega arith) (omega arith) (omega arith) (omega arith) (omega (arith, c.put-behind.ensures.index))
+    c.put-behind.ensures.buffer

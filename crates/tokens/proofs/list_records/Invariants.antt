@@ -1,9 +1,8 @@
 -- `tokens::list_records` meets its contract. The loop's invariant is Walking: the tokens of the records before the place are listed. The measure
 -- is what is left of the reading. Assumes nothing.
 use Prim.Native.Nat.{◌-◌}
-use native.Mathlib.Omega.{arith}
 use lib.ListN.{length}
-use Rattle.tokens.proofs.Walks.{Walking, walk_start, walk-given, walk_step, walk_end, walk-length}
+use Rattle.tokens.proofs.Walks.{Walking}
 use Rattle.tokens.proofs.list_records.Given as goal
 
 abbrev pub invariant-loop-at : goal.invariant-loop-at

@@ -1,7 +1,6 @@
 -- `reading::Place::step` meets its contract: the place moves on by a record, or stays. Assumes nothing.
 use native.Mathlib.Omega.{arith}
 use mathlib.Core.Path.{sym}
-use borrow.Author.Rules.{rules}
 use Rattle.reading.proofs.Places.{stepped-on, stepped-not}
 use Rattle.reading.proofs.Place.step.Goals as goal
 
