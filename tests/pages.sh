@@ -39,7 +39,7 @@ for example in lap sort; do
 done
 
 # README.md names every crate, and every C function that a program calls
-for crate in $(sed -n 's/^\([a-z_]*\):.*/\1/p' crates.txt); do
+for crate in $(sed -n 's/^\([a-z_]*\)[^:]*:.*/\1/p' crates.txt); do
     grep -q "^| \`$crate\` |" README.md || fail "README.md has no line for the crate $crate"
 done
 for name in $(nm target/bin/* | awk '$1 == "U" { print $2 } $2 == "T" && $3 ~ /^rattle_/ { print $3 }' | sed 's/@.*//' | sort -u); do
@@ -55,7 +55,7 @@ for name in $(quoted docs/PROMISES.md | grep -E '^[a-z0-9]+(_[a-z0-9]+)+$'); do
     grep -qrE "\b$name\b" crates/*/src || ls crates/*/must-fail/"$name.edit" >/dev/null 2>&1 || [ -d "crates/$name" ] ||
         grep -qrE "^ *((pub|abbrev|unfoldable) )*$name( .*)? :( |$)" crates/*/{specs,proofs} || fail "no must-fail edit, function, definition or theorem $name"
 done
-for name in $(quoted docs/PROMISES.md docs/FORMATS.md docs/REVIEW.md | grep -E '^[A-Z][A-Za-z]+\.[A-Za-z-]+$' | grep -vE '\.(antt|md|rt)$|^File\.name$'); do
+for name in $(quoted docs/PROMISES.md docs/FORMATS.md docs/REVIEW.md | grep -E '^[A-Z][A-Za-z]+\.[A-Za-z_-]+$' | grep -vE '\.(antt|md|rt)$|^File\.name$'); do
     grep -qsE "(^|[ {])${name#*.}([ ,:}]|$)" crates/*/{specs,proofs}/"${name%%.*}".antt || fail "no $name"
 done
 echo "pages: ok"
