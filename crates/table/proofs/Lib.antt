@@ -5,8 +5,5 @@ pub mod Children
 pub mod Nodes
 pub mod UpTo
 pub mod Checking
-mod Own
-mod Naming
 mod Letters
 mod Scan
-mod Storing

@@ -10,8 +10,7 @@ use lib.Dec.{ltb, eqb}
 use lib.ListN.{length, replicate, length-replicate, get_or-replicate}
 use borrow.Author.Tests.{lt-ltb, le-ltb, eq-eqb, ne_eqb}
 use Rattle.table.specs.declared.Refusal.{Refusal}
-use Rattle.table.specs.declared.Answer.{Answer}
-use Rattle.table.specs.declared.Answer.TheVariants.{Done, Refused}
+use Rattle.std.specs.Prelude.{Result, Ok, Err}
 use Rattle.table.specs.Records.{count}
 use Rattle.table.specs.Faults.{bad_size, bad_named}
 use Rattle.table.specs.Answers.{Said, gives, refuses, refusal}
@@ -52,27 +51,27 @@ module _ (t : List ℕ) where
   scan-end k marks s l = let none : count t - k ≡ 0 = omega arith in rw none at s.so_far
 
 -- at record k, where refusals 2 to 5 were answered by r
-pub record Tested (t : List ℕ) (k : ℕ) (r : Answer) : Type 0 where
+pub record Tested (t : List ℕ) (k : ℕ) (r : Result (Unit {0}) Refusal) : Type 0 where
   pub inside : k < count t
   pub rest : or_said r (or_else (bad_named t k) (refuses 6 k) (fault_from t (count t - suc k) (suc k))) ≡ checked t
 
-pub scan-own : (t : List ℕ) (k : ℕ) (marks : List ℕ) (r : Answer) → Scanning t k marks → k < count t
+pub scan-own : (t : List ℕ) (k : ℕ) (marks : List ℕ) (r : Result (Unit {0}) Refusal) → Scanning t k marks → k < count t
     → ((said : Said) → or_said r said ≡ own_fault_or t k said) → Tested t k r
 scan-own t k marks r s l own =
     let one : count t - k ≡ suc (count t - suc k) = omega arith in
     record { inside = l; rest = own _ ∙ rw one at s.so_far }
 
-module _ {t : List ℕ} {k : ℕ} {r : Answer} (h : Tested t k r) where
-  pub own-refused : (why : Refusal) → r ≡ Refused why → refusal why ≡ checked t
+module _ {t : List ℕ} {k : ℕ} {r : Result (Unit {0}) Refusal} (h : Tested t k r) where
+  pub own-refused : (why : Refusal) → r ≡ Err why → refusal why ≡ checked t
   own-refused why e = rw e at h.rest
 
-  own-free : (n : ℕ) → r ≡ Done n → or_else (bad_named t k) (refuses 6 k) (fault_from t (count t - suc k) (suc k)) ≡ checked t
+  own-free : (n : Unit {0}) → r ≡ Ok n → or_else (bad_named t k) (refuses 6 k) (fault_from t (count t - suc k) (suc k)) ≡ checked t
   own-free n e = rw e at h.rest
 
-  pub named-refused : (n : ℕ) → r ≡ Done n → (again : Bool) → again ≡ bad_named t k → again ≡ true → refuses 6 k ≡ checked t
+  pub named-refused : (n : Unit {0}) → r ≡ Ok n → (again : Bool) → again ≡ bad_named t k → again ≡ true → refuses 6 k ≡ checked t
   named-refused n e again f g = rw (sym f ∙ g) at (own-free n e)
 
-  pub scan-next : (n : ℕ) → r ≡ Done n → (again : Bool) → again ≡ bad_named t k → again ≡ false → (after : List ℕ) → Marks t (suc k) after
+  pub scan-next : (n : Unit {0}) → r ≡ Ok n → (again : Bool) → again ≡ bad_named t k → again ≡ false → (after : List ℕ) → Marks t (suc k) after
       → Scanning t (k + 1) after
   scan-next n e again f g after m =
       rw add-one (record { within = h.inside; so_far = rw (sym f ∙ g) at (own-free n e); marked = m })

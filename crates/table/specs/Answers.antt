@@ -1,11 +1,10 @@
 -- The paper's number and detail for every answer (document 01, "Who is refused, and by which number"), and the 64-bit number that a C
 -- caller is given ("The program and the host"). Contracts state answers through `says`.
 -- Assumes nothing.
-use Rattle.std.specs.Prelude.{ℕ, ◌+◌, ◌*◌, Bool, true, false}
+use Rattle.std.specs.Prelude.{ℕ, ◌+◌, ◌*◌, Bool, true, false, List, Result, Ok, Err}
 use Rattle.table.specs.declared.Refusal.{Refusal}
 use Rattle.table.specs.declared.Refusal.TheVariants.{Size, Kind, Unused, Bounds, Child, Named, Line, NoReading, Start, Work, Buffer, Unfit, Differ, Text, Records, Pairs, TokenBytes, EmptyLine, Lines}
-use Rattle.table.specs.declared.Answer.{Answer}
-use Rattle.table.specs.declared.Answer.TheVariants.{Done, Refused}
+use Rattle.table.specs.Records.{count}
 
 -- an answer in the paper's numbers: a result, or a refusal's number and its detail
 pub data Said : Type 0 where
@@ -39,10 +38,24 @@ refusal TokenBytes = refuses 18 0
 refusal EmptyLine = refuses 19 0
 refusal Lines = refuses 20 0
 
+-- the number and the detail that a refusal has, 0 for a result
+abbrev pub number_in : Said → ℕ
+number_in (gives n) = 0
+number_in (refuses n d) = n
+
+abbrev pub detail_in : Said → ℕ
+detail_in (gives n) = 0
+detail_in (refuses n d) = d
+
 -- the answer in the paper's numbers
-abbrev pub says : Answer → Said
-says (Done n) = gives n
-says (Refused r) = refusal r
+abbrev pub says : Result ℕ Refusal → Said
+says (Ok n) = gives n
+says (Err why) = refusal why
+
+-- the same of bytes that are taken as rules: the record count
+abbrev pub rules_say : Result (List ℕ) Refusal → Said
+rules_say (Ok t) = gives (count t)
+rules_say (Err why) = refusal why
 
 -- "one 64-bit number: the result, or the refusal number times 2^32 plus the detail"
 abbrev pub number : Said → ℕ

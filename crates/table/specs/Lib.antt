@@ -1,6 +1,7 @@
 -- The rule table's definitions.
 -- What the calls' contracts and the promises cite, in the order in which they are read.
 pub mod Records
+pub mod Kinds
 pub mod Faults
 pub mod Answers
 pub mod Checked

@@ -1,16 +1,15 @@
 -- What the functions behind Check are said to do, in the terms of Faults and Checked.
 -- Assumes nothing.
-use Rattle.std.specs.Prelude.{ℕ, ◌<◌, ◌≡◌, Bool, not, List, eqb, length, get_or}
-use Rattle.table.specs.declared.Answer.{Answer}
-use Rattle.table.specs.declared.Answer.TheVariants.{Done, Refused}
+use Rattle.std.specs.Prelude.{ℕ, ◌<◌, ◌≡◌, Bool, not, List, eqb, length, get_or, Result, Ok, Err}
+use Rattle.table.specs.declared.Refusal.{Refusal}
 use Rattle.table.specs.Faults.{bad_kind, bad_unused, bad_bounds, bad_child, named_below}
 use Rattle.table.specs.Answers.{Said, refuses, refusal}
 use Rattle.table.specs.Checked.{or_else}
 
 -- a test's refusal, or what is said after it
-abbrev pub or_said : Answer → Said → Said
-or_said (Done n) said = said
-or_said (Refused r) said = refusal r
+abbrev pub or_said : Result (Unit {0}) Refusal → Said → Said
+or_said (Ok _) said = said
+or_said (Err why) said = refusal why
 
 -- record k's first fault of 2 to 5, which the record shows by itself, or what is said where it has none
 abbrev pub own_fault_or : List ℕ → ℕ → Said → Said

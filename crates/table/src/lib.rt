@@ -1,35 +1,67 @@
 // The rule table of document 01: Check, and the answers of every call.
 #![tactic(auto)]
 
-ghost use Rattle.std.specs.Prelude.{◌+◌, ◌*◌, ◌<◌, suc, ◌≡◌, length, set};
+ghost use Rattle.std.specs.Prelude.{ℕ, List, IfOk, ◌+◌, ◌*◌, ◌<◌, suc, ◌≡◌, length, set};
 ghost use Rattle.std.proofs.lemmas.List.Edits.{sets};
 ghost use Rattle.posix.specs.Expressions.{holds};
 ghost use Rattle.posix.specs.Extends.{holds_some};
-ghost use Rattle.table.specs.Records.{kind_at, a_at, b_at, tag_at, record_bytes};
-ghost use Rattle.table.specs.Faults.{bad_named};
-ghost use Rattle.table.specs.Answers.{Said, refuses, refusal, says};
+ghost use Rattle.table.specs.Records.{count, kind_at, a_at, b_at, tag_at, record_bytes};
+ghost use Rattle.table.specs.Kinds.{number_of, Decodes};
+ghost use Rattle.table.specs.Faults.{bad_named, Passes};
+ghost use Rattle.table.specs.Answers.{Said, refusal, number_in, detail_in, says, rules_say};
 ghost use Rattle.table.specs.Checked.{checked};
 ghost use Rattle.table.specs.Letters.{byte_set};
 ghost use Rattle.table.specs.Steps.{or_said, own_fault_or, is_set, Marks};
 
-// The kinds of a record.
-pub const NOTHING: u8 = 0;
+use std::marker::Model;
 
-pub const EMPTY: u8 = 1;
+// The kind of a record, in the order of their numbers.
+#[derive(Clone, Copy, Debug, PartialEq, Eq)]
+pub enum Kind {
+    Nothing,
+    Empty,
+    Range,
+    Or,
+    Seq,
+    Star,
+    Other,
+}
 
-pub const RANGE: u8 = 2;
+// A number that no kind has.
+#[derive(Clone, Copy, Debug, PartialEq, Eq)]
+pub struct UnknownKind(pub u8);
 
-pub const OR: u8 = 3;
+impl TryFrom<u8> for Kind {
+    type Error = UnknownKind;
 
-pub const SEQ: u8 = 4;
+    ghost try_from_gives = { Decodes };
 
-pub const STAR: u8 = 5;
+    fn try_from(number: u8) -> Result<Kind, UnknownKind> {
+        match number {
+            0 => Ok(Kind::Nothing),
+            1 => Ok(Kind::Empty),
+            2 => Ok(Kind::Range),
+            3 => Ok(Kind::Or),
+            4 => Ok(Kind::Seq),
+            5 => Ok(Kind::Star),
+            6 => Ok(Kind::Other),
+            _ => Err(UnknownKind(number)),
+        }
+    }
+}
 
-pub const OTHER: u8 = 6;
+impl Kind {
+    // The kind's number.
+    pub fn number(self) -> u8
+        ensures { result ≡ number_of self }
+    {
+        self as u8
+    }
+}
 
 // Why a call is refused: one case for each of the paper's numbers 1 to 20 but 13, which no call gives, in their order. A case holds the
 // refusal's detail where it has one.
-#[derive(Drop)]
+#[derive(Clone, Copy, Debug, PartialEq, Eq)]
 pub enum Refusal {
     Size,
     Kind(usize),
@@ -52,142 +84,57 @@ pub enum Refusal {
     Lines,
 }
 
-// What a call answers: its result, or the refusal.
-#[derive(Drop)]
-pub enum Answer {
-    Done(usize),
-    Refused(Refusal),
-}
+impl Refusal {
+    // The refusal's number.
+    pub fn number(self) -> usize
+        ensures { result ≡ number_in (refusal self) }
+    {
+        match self {
+            Refusal::Size => 1,
+            Refusal::Kind(_) => 2,
+            Refusal::Unused(_) => 3,
+            Refusal::Bounds(_) => 4,
+            Refusal::Child(_) => 5,
+            Refusal::Named(_) => 6,
+            Refusal::Line => 7,
+            Refusal::NoReading => 8,
+            Refusal::Start => 9,
+            Refusal::Work => 10,
+            Refusal::Buffer(_) => 11,
+            Refusal::Unfit(_) => 12,
+            Refusal::Differ => 14,
+            Refusal::Text => 15,
+            Refusal::Records => 16,
+            Refusal::Pairs => 17,
+            Refusal::TokenBytes => 18,
+            Refusal::EmptyLine => 19,
+            Refusal::Lines => 20,
+        }
+    }
 
-// A refusal's number and detail in document 01.
-#[derive(Drop)]
-pub struct Numbers {
-    pub number: usize,
-    pub detail: usize,
-}
-
-// The number and the detail of a refusal.
-pub fn numbers_of(why: Refusal) -> Numbers
-    ensures { refuses result.number result.detail ≡ refusal why }
-{
-    match why {
-        Refusal::Size => Numbers {
-            number: 1,
-            detail: 0,
-        },
-        Refusal::Kind(k) => Numbers {
-            number: 2,
-            detail: k,
-        },
-        Refusal::Unused(k) => Numbers {
-            number: 3,
-            detail: k,
-        },
-        Refusal::Bounds(k) => Numbers {
-            number: 4,
-            detail: k,
-        },
-        Refusal::Child(k) => Numbers {
-            number: 5,
-            detail: k,
-        },
-        Refusal::Named(k) => Numbers {
-            number: 6,
-            detail: k,
-        },
-        Refusal::Line => Numbers {
-            number: 7,
-            detail: 0,
-        },
-        Refusal::NoReading => Numbers {
-            number: 8,
-            detail: 0,
-        },
-        Refusal::Start => Numbers {
-            number: 9,
-            detail: 0,
-        },
-        Refusal::Work => Numbers {
-            number: 10,
-            detail: 0,
-        },
-        Refusal::Buffer(n) => Numbers {
-            number: 11,
-            detail: n,
-        },
-        Refusal::Unfit(i) => Numbers {
-            number: 12,
-            detail: i,
-        },
-        Refusal::Differ => Numbers {
-            number: 14,
-            detail: 0,
-        },
-        Refusal::Text => Numbers {
-            number: 15,
-            detail: 0,
-        },
-        Refusal::Records => Numbers {
-            number: 16,
-            detail: 0,
-        },
-        Refusal::Pairs => Numbers {
-            number: 17,
-            detail: 0,
-        },
-        Refusal::TokenBytes => Numbers {
-            number: 18,
-            detail: 0,
-        },
-        Refusal::EmptyLine => Numbers {
-            number: 19,
-            detail: 0,
-        },
-        Refusal::Lines => Numbers {
-            number: 20,
-            detail: 0,
-        },
+    // The refusal's detail, 0 where it has none.
+    pub fn detail(self) -> usize
+        ensures { result ≡ detail_in (refusal self) }
+    {
+        match self {
+            Refusal::Kind(k) => k,
+            Refusal::Unused(k) => k,
+            Refusal::Bounds(k) => k,
+            Refusal::Child(k) => k,
+            Refusal::Named(k) => k,
+            Refusal::Buffer(n) => n,
+            Refusal::Unfit(i) => i,
+            _ => 0,
+        }
     }
 }
 
-// The kind of record k.
-pub fn kind_at(table: &[u8], k: usize) -> u8
-    requires { 4 * k + 3 < length table.now }
-    ensures { result ≡ kind_at table.now k }
-{
-    table[4 * k]
-}
-
-// Field a of record k.
-pub fn a_at(table: &[u8], k: usize) -> u8
-    requires { 4 * k + 3 < length table.now }
-    ensures { result ≡ a_at table.now k }
-{
-    table[4 * k + 1]
-}
-
-// Field b of record k.
-pub fn b_at(table: &[u8], k: usize) -> u8
-    requires { 4 * k + 3 < length table.now }
-    ensures { result ≡ b_at table.now k }
-{
-    table[4 * k + 2]
-}
-
-// The tag of record k.
-pub fn tag_at(table: &[u8], k: usize) -> u8
-    requires { 4 * k + 3 < length table.now }
-    ensures { result ≡ tag_at table.now k }
-{
-    table[4 * k + 3]
-}
-
 // Stores record k.
-pub fn put_record(table: &mut [u8], k: usize, kind: u8, a: u8, b: u8, tag: u8)
+pub fn put_record(table: &mut [u8], k: usize, kind: Kind, a: u8, b: u8, tag: u8)
     requires { 4 * k + 3 < length table.old }
-    ensures { table.new ≡ sets table.old (4 * k) (record_bytes kind a b tag) }
+    ensures { table.new ≡ sets table.old (4 * k) (record_bytes (number_of kind) a b tag) }
 {
-    table[4 * k] = kind;
+    table[4 * k] = kind.number();
     table[4 * k + 1] = a;
     table[4 * k + 2] = b;
     table[4 * k + 3] = tag;
@@ -201,61 +148,62 @@ pub fn put_tag(table: &mut [u8], k: usize, tag: u8)
     table[4 * k + 3] = tag;
 }
 
-// Whether a letter of a kind, a Range or an Other, with the bounds a and b holds byte c.
+// Whether a letter with the bounds a and b holds byte c: an Other by its kind's number, otherwise a Range.
 pub fn letter_holds(kind: u8, a: u8, b: u8, c: u8) -> bool
     ensures { result ≡ holds (byte_set kind a b) c }
 {
-    if kind == OTHER {
+    if kind == Kind::Other.number() {
         return c < a || b < c;
     }
     a <= c && c <= b
 }
 
-// Whether a letter of a kind, a Range or an Other, with the bounds a and b holds some byte.
+// Whether a letter with the bounds a and b holds some byte.
 pub fn letter_holds_some(kind: u8, a: u8, b: u8) -> bool
     ensures { result ≡ holds_some (byte_set kind a b) }
 {
-    if kind == OTHER {
+    if kind == Kind::Other.number() {
         return 0 < a || b < 255;
     }
     a <= b
 }
 
-// Record k's first fault of refusals 2 to 5, or k.
-fn own_fault(table: &[u8], k: usize) -> Answer
+// Record k's first fault of refusals 2 to 5, if it has one.
+fn own_fault(table: &[u8], k: usize) -> Result<(), Refusal>
     requires { 4 * k + 3 < length table.now }
     ensures { (said : Said) → or_said result said ≡ own_fault_or table.now k said }
 {
-    let kind = kind_at(table, k);
-    let a = a_at(table, k) as usize;
-    let b = b_at(table, k) as usize;
+    let Ok(kind) = Kind::try_from(table[4 * k]) else {
+        return Err(Refusal::Kind(k));
+    };
+    let a = table[4 * k + 1] as usize;
+    let b = table[4 * k + 2] as usize;
     match kind {
-        NOTHING | EMPTY => {
+        Kind::Nothing | Kind::Empty => {
             if a != 0 || b != 0 {
-                return Answer::Refused(Refusal::Unused(k));
+                return Err(Refusal::Unused(k));
             }
         }
-        RANGE | OTHER => {
+        Kind::Range | Kind::Other => {
             if b < a {
-                return Answer::Refused(Refusal::Bounds(k));
+                return Err(Refusal::Bounds(k));
             }
         }
-        OR | SEQ => {
+        Kind::Or | Kind::Seq => {
             if k <= a || k <= b {
-                return Answer::Refused(Refusal::Child(k));
+                return Err(Refusal::Child(k));
             }
         }
-        STAR => {
+        Kind::Star => {
             if b != 0 {
-                return Answer::Refused(Refusal::Unused(k));
+                return Err(Refusal::Unused(k));
             }
             if k <= a {
-                return Answer::Refused(Refusal::Child(k));
+                return Err(Refusal::Child(k));
             }
         }
-        _ => return Answer::Refused(Refusal::Kind(k)),
     }
-    Answer::Done(k)
+    Ok(())
 }
 
 // Marks child c, and says whether it was marked before.
@@ -276,40 +224,103 @@ fn name_children(table: &[u8], k: usize, marks: &mut [u8; 256]) -> bool
     ensures again { result ≡ bad_named table.now k }
     ensures right { Marks table.now (suc k) marks.new }
 {
-    let kind = kind_at(table, k);
-    let a = a_at(table, k);
-    if kind == STAR {
-        return name_child(marks, a);
+    let a = table[4 * k + 1];
+    let b = table[4 * k + 2];
+    match Kind::try_from(table[4 * k]) {
+        Ok(Kind::Star) => name_child(marks, a),
+        Ok(Kind::Or | Kind::Seq) => {
+            let first = name_child(marks, a);
+            let second = name_child(marks, b);
+            first | second
+        }
+        _ => false,
     }
-    if kind == OR || kind == SEQ {
-        let b = b_at(table, k);
-        let first = name_child(marks, a);
-        let second = name_child(marks, b);
-        return first | second;
-    }
-    false
 }
 
 // Check: the number of records, or the first fault.
-pub fn check(table: &[u8]) -> Answer
+pub fn check(table: &[u8]) -> Result<usize, Refusal>
     ensures answer { says result ≡ checked table.now }
 {
     let size = table.len();
     if size == 0 || 1020 < size || size % 4 != 0 {
-        return Answer::Refused(Refusal::Size);
+        return Err(Refusal::Size);
     }
     let m = size / 4;
     let mut marks = [0u8; 256];
-    let mut k = 0;
-    while k < m {
-        let own = own_fault(table, k);
-        if let Answer::Refused(why) = own {
-            return Answer::Refused(why);
-        }
+    for k in 0..m {
+        own_fault(table, k)?;
         if name_children(table, k, &mut marks) {
-            return Answer::Refused(Refusal::Named(k));
+            return Err(Refusal::Named(k));
         }
-        k += 1;
     }
-    Answer::Done(m)
+    Ok(m)
+}
+
+// A table that passes Check. Contracts see its bytes.
+pub struct Rules<'a> {
+    bytes: &'a [u8],
+}
+
+impl<'a> Model for Rules<'a> {
+    ghost Value = { List ℕ };
+
+    ghost view = { λ r. r.bytes.now };
+
+    ghost invariant = { λ r. Passes r.bytes.now };
+}
+
+impl<'a> Rules<'a> {
+    // A table's rules, or its first fault.
+    pub fn new(bytes: &'a [u8]) -> Result<Rules<'a>, Refusal>
+        ensures answer { rules_say result ≡ checked bytes.entry.now }
+        ensures rules { IfOk result (λ rules. rules ≡ bytes.entry.now) }
+    {
+        check(bytes)?;
+        Ok(Rules { bytes })
+    }
+
+    // The number of records.
+    pub fn count(&self) -> usize
+        ensures count { result ≡ count self.now }
+        ensures passes { Passes self.now }
+    {
+        self.bytes.len() / 4
+    }
+
+    // The kind of record k.
+    pub fn kind_at(&self, k: usize) -> Kind
+        requires { k < count self.now }
+        ensures kind { number_of result ≡ kind_at self.now k }
+        ensures passes { Passes self.now }
+    {
+        let bytes = self.bytes;
+        Kind::try_from(bytes[4 * k]).unwrap()
+    }
+
+    // Field a of record k.
+    pub fn a_at(&self, k: usize) -> u8
+        requires { k < count self.now }
+        ensures { result ≡ a_at self.now k }
+    {
+        let bytes = self.bytes;
+        bytes[4 * k + 1]
+    }
+
+    // Field b of record k.
+    pub fn b_at(&self, k: usize) -> u8
+        requires { k < count self.now }
+        ensures { result ≡ b_at self.now k }
+    {
+        let bytes = self.bytes;
+        bytes[4 * k + 2]
+    }
+
+    // The tag of record k.
+    pub fn tag_at(&self, k: usize) -> u8
+        requires { k < count self.now }
+        ensures { result ≡ tag_at self.now k }
+    {
+        let bytes = self.bytes;
+        bytes[4 * k + 3]
+    }
 }

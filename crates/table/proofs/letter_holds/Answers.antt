@@ -10,7 +10,7 @@ pub returns-else-c-a : goal.returns-else-c-a
 returns-else-c-a c = other-not-below c.args.kind c.args.a c.args.b c.args.c (omega arith) (omega arith) (omega arith)
 
 pub returns-then-a-c : goal.returns-then-a-c
-returns-then-a-c c = range-not-below c.args.kind c.args.a c.args.b c.args.c (omega arith) c.if-kind-eq-OTHER.false (omega arith)
+returns-then-a-c c = range-not-below c.args.kind c.args.a c.args.b c.args.c (omega arith) (rw c.number.ensures at c.if-kind-number.false) (omega arith)
 
 pub returns-else-a-c : goal.returns-else-a-c
-returns-else-a-c c = range-below c.args.kind c.args.a c.args.b c.args.c (omega arith) c.if-kind-eq-OTHER.false (omega arith)
+returns-else-a-c c = range-below c.args.kind c.args.a c.args.b c.args.c (omega arith) (rw c.number.ensures at c.if-kind-number.false) (omega arith)

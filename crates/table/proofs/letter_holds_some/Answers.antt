@@ -10,4 +10,4 @@ pub returns-else-a-gt0 : goal.returns-else-a-gt0
 returns-else-a-gt0 c = other-from-0 c.args.kind c.args.a c.args.b (omega arith) (omega arith)
 
 pub returns : goal.returns
-returns c = range-some c.args.kind c.args.a c.args.b c.if-kind-eq-OTHER.false (omega arith)
+returns c = range-some c.args.kind c.args.a c.args.b (rw c.number.ensures at c.if-kind-number.false) (omega arith)
