@@ -9,11 +9,11 @@ use borrow.Author.Tests.{lt-ltb, le-ltb, ltb-true, not-false}
 use lib.Dec.{ltb}
 use Rattle.table.specs.declared.Refusal.{Refusal}
 use Rattle.table.specs.declared.Refusal.TheVariants.{Size, Kind, Unused, Bounds, Child, Named, Line, NoReading, Start, Work, Buffer, Unfit, Differ, Text, Records, Pairs, TokenBytes, EmptyLine, Lines}
-use Rattle.table.specs.declared.Answer.{Answer}
-use Rattle.table.specs.declared.Answer.TheVariants.{Done, Refused}
+use Rattle.std.specs.Prelude.{Result, Ok, Err, IfOk}
+use Rattle.std.proofs.lemmas.Result.{IfOk-at_ok}
 use Rattle.table.specs.Records.{count}
 use Rattle.table.specs.Faults.{Passes}
-use Rattle.table.specs.Answers.{Said, gives, refuses, refusal, says}
+use Rattle.table.specs.Answers.{Said, gives, refuses, refusal, rules_say}
 use Rattle.table.specs.Checked.{or_else, checked}
 use Rattle.table.proofs.Checking.{check-gives, check-passes}
 use Rattle.reading.specs.Calls.{if_passed, if_start}
@@ -81,34 +81,47 @@ refusal-numbers EmptyLine = (19, 0, refl)
 refusal-numbers Lines = (20, 0, refl)
 
 -- the same of the answer that `admit` hands over
-pub admitted : (t : List ℕ) (k : ℕ) (r : Answer) (m : ℕ) → says r ≡ if_start t k (gives (count t)) → r ≡ Done m → Admitted t k
-admitted t k r m e f = start_gives t k (gives (count t)) m (sym e ∙ ap says f)
+pub admitted :
+    (t : List ℕ) (k : ℕ) (r : Result (List ℕ) Refusal) (x : List ℕ) → rules_say r ≡ if_start t k (gives (count t)) → r ≡ Ok x → Admitted t k
+admitted t k r x e f = start_gives t k (gives (count t)) (count x) (sym e ∙ ap rules_say f)
 
 pub not-admitted :
-    (t : List ℕ) (k : ℕ) (r : Answer) (why : Refusal) → says r ≡ if_start t k (gives (count t)) → r ≡ Refused why
+    (t : List ℕ) (k : ℕ) (r : Result (List ℕ) Refusal) (why : Refusal) → rules_say r ≡ if_start t k (gives (count t)) → r ≡ Err why
     → (said : Said) → refusal why ≡ if_start t k said
 not-admitted t k r why e f said =
     let x : (n : ℕ) × (d : ℕ) × (refusal why ≡ refuses n d) = refusal-numbers why in
-    x.2 ∙ sym (admit-refuses t k x.0 x.1 (sym e ∙ ap says f ∙ x.2) said)
+    x.2 ∙ sym (admit-refuses t k x.0 x.1 (sym e ∙ ap rules_say f ∙ x.2) said)
 
 -- the three ways out of `admit`, after Check's answer r
 pub admit-done :
-    (t : List ℕ) (k : ℕ) (r : Answer) (m : ℕ) → says r ≡ checked t → r ≡ Done m → k < m → gives m ≡ if_start t k (gives (count t))
-admit-done t k r m e f l =
-    let g : checked t ≡ gives m = sym e ∙ ap says f in
-    let h : Passes t × (m ≡ count t) = check-gives t m g in
-    ap gives h.1 ∙ sym ((start_inside t k h.0 (omega (arith, h.1))).said_on (gives (count t)))
+    (t : List ℕ) (k : ℕ) (r : Result (List ℕ) Refusal) (x : List ℕ) → rules_say r ≡ checked t → r ≡ Ok x → x ≡ t → k < count x
+    → gives (count x) ≡ if_start t k (gives (count t))
+admit-done t k r x e f g l =
+    let h : checked t ≡ gives (count x) = sym e ∙ ap rules_say f in
+    rw g (sym ((start_inside t k (check-gives t (count x) h).0 (rw g at l)).said_on (gives (count t))))
 
 pub admit-start :
-    (t : List ℕ) (k : ℕ) (r : Answer) (m : ℕ) → says r ≡ checked t → r ≡ Done m → m ≤ k → refuses 9 0 ≡ if_start t k (gives (count t))
-admit-start t k r m e f l =
-    let g : checked t ≡ gives m = sym e ∙ ap says f in
-    let h : Passes t × (m ≡ count t) = check-gives t m g in
-    rw (g, le-ltb k (count t) (omega (arith, h.1)))
+    (t : List ℕ) (k : ℕ) (r : Result (List ℕ) Refusal) (x : List ℕ) → rules_say r ≡ checked t → r ≡ Ok x → x ≡ t → count x ≤ k
+    → refuses 9 0 ≡ if_start t k (gives (count t))
+admit-start t k r x e f g l =
+    let h : checked t ≡ gives (count x) = sym e ∙ ap rules_say f in
+    let m : count t ≤ k = rw g at l in
+    rw (h, le-ltb k (count t) m)
 
 pub admit-table :
-    (t : List ℕ) (k : ℕ) (r : Answer) (why : Refusal) → says r ≡ checked t → r ≡ Refused why → refusal why ≡ if_start t k (gives (count t))
+    (t : List ℕ) (k : ℕ) (r : Result (List ℕ) Refusal) (why : Refusal) → rules_say r ≡ checked t → r ≡ Err why
+    → refusal why ≡ if_start t k (gives (count t))
 admit-table t k r why e f =
     let x : (n : ℕ) × (d : ℕ) × (refusal why ≡ refuses n d) = refusal-numbers why in
-    let g : checked t ≡ refuses x.0 x.1 = sym e ∙ ap says f ∙ x.2 in
+    let g : checked t ≡ refuses x.0 x.1 = sym e ∙ ap rules_say f ∙ x.2 in
     x.2 ∙ rw g
+
+-- what a call has that `admit` let in: the rules x are the table that it was lent
+pub record Lent (t : List ℕ) (k : ℕ) (x : List ℕ) : Type 0 where
+  pub same : x ≡ t
+  pub given : Admitted t k
+
+pub lent :
+    {t : List ℕ} {k : ℕ} {r : Result (List ℕ) Refusal} {x : List ℕ} → rules_say r ≡ if_start t k (gives (count t)) → IfOk r (λ y. y ≡ t) → r ≡ Ok x
+    → Lent t k x
+lent e f g = record { same = IfOk-at_ok _ g f; given = admitted _ _ _ _ e g }

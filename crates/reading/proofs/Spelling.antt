@@ -10,11 +10,10 @@ use lib.ListN.{length, drop}
 use Rattle.posix.specs.Values.{Val, flat}
 use Rattle.posix.specs.Decision.{Parsed, found, missing}
 use Rattle.table.specs.declared.Refusal.{Refusal}
-use Rattle.table.specs.declared.Answer.{Answer}
-use Rattle.table.specs.declared.Answer.TheVariants.{Refused}
+use Rattle.std.specs.Prelude.{Result, Err}
 use Rattle.table.specs.Records.{count}
 use Rattle.table.specs.Faults.{Passes}
-use Rattle.table.specs.Answers.{Said, gives, refuses, refusal, says}
+use Rattle.table.specs.Answers.{Said, gives, refuses, refusal, rules_say}
 use Rattle.table.specs.Checked.{or_else}
 use Rattle.reading.specs.Fitting.{Fits, spelled, reading_of}
 use Rattle.table.specs.Buffers.{if_room, after}
@@ -47,7 +46,7 @@ module _ (t : List ℕ) (k : ℕ) (bs out : List ℕ) where
 
   -- 1 to 6 and 9
   pub spell-table :
-      {r : Answer} (why : Refusal) → says r ≡ if_start t k (gives (count t)) → r ≡ Refused why
+      {r : Result (List ℕ) Refusal} (why : Refusal) → rules_say r ≡ if_start t k (gives (count t)) → r ≡ Err why
       → (refusal why ≡ spell_says t k bs (length out)) × (out ≡ spell_leaves t k bs out)
   unfolding spell_says
   spell-table {r} why e f =

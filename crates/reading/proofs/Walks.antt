@@ -1,5 +1,6 @@
 -- The part that starts at a place, by the shape of its first record: what every walk over a reading goes by (document 01, "Readings").
 -- Assumes nothing.
+use Rattle.std.specs.Prelude.{Option, Some, None}
 use Prim.Native.Nat.{ℕ, zero, suc, ◌+◌, ◌-◌, ◌≤◌, ◌<◌}
 use mathlib.Core.Path.{◌≡◌, refl, sym, ◌∙◌, ap, subst}
 use mathlib.Core.Bool.{Bool, true, false, ◌&&◌}
@@ -18,10 +19,8 @@ use Rattle.table.specs.Expression.{exp_of}
 use Rattle.table.proofs.Laws.{exp-nothing, exp-empty, exp-letter, exp-or, exp-seq, exp-star}
 use Rattle.table.proofs.Passing.{letter_at, kind-small, a-below, b-below, star-a-below}
 use Rattle.reading.specs.declared.Span.{Span}
-use Rattle.reading.specs.declared.Fit.{Fit}
-use Rattle.reading.specs.declared.Fit.TheVariants.{Found, Unfit}
 use Rattle.reading.specs.declared.Shape.{Shape}
-use Rattle.reading.specs.declared.Shape.TheVariants.{Leaf, Left, Right, Both, Many, Wrong}
+use Rattle.reading.specs.declared.Shape.TheVariants.{Leaf, Left, Right, Both, Many}
 use Rattle.reading.specs.Codec.{record_size, record_bytes, record_at, encode, Decoded, fits, unfit, under, chain, pick, non_empty, decode_items, is_length, held, at_record, decode}
 use Rattle.reading.specs.Walks.{pick_shape, letter_shape, shape_of, shape_by, shape_at, leaf, decode_by, span_of, fit_at, fit_items, longer, then_fit, spelling_part, fit_by, length_at, fit_if, held_part}
 use Rattle.reading.proofs.Codec.{length-written, decode-sound}
@@ -83,7 +82,7 @@ span-non_empty n (fits v rest) = go (flat v) refl
   where
     go : (s : List ℕ) → flat v ≡ s → span_of n (non_empty (fits v rest)) ≡ spelling_part (span_of n (fits v rest))
     go [] e = rw e
-    go (c ∷ s) e = rw e (ap (λ (l : List ℕ). Found (record { next = record { at = n - length rest }; size = length l })) e)
+    go (c ∷ s) e = rw e (ap (λ (l : List ℕ). Some (record { next = record { at = n - length rest }; size = length l })) e)
 
 non_empty-over : (d : Decoded) (v : Val) (rest : List ℕ) → non_empty d ≡ fits v rest → d ≡ fits v rest
 non_empty-over unfit v rest e = let z : ◌≡◌ {A = ℕ} 0 1 = cc in absurd (omega arith)
@@ -100,11 +99,11 @@ decode-over :
 decode-over t k r bs at h v rest e = over bs (encode t k v) rest at h (decode-sound t k r (drop at bs) v rest e).1
 
 -- no iterations
-pub items-zero : (t : List ℕ) (c : ℕ) (bs : List ℕ) (at : ℕ) → at ≤ length bs → fit_items t c 0 bs at ≡ Found (record { next = record { at = at }; size = 0 })
+pub items-zero : (t : List ℕ) (c : ℕ) (bs : List ℕ) (at : ℕ) → at ≤ length bs → fit_items t c 0 bs at ≡ Some (record { next = record { at = at }; size = 0 })
 unfolding fit_items
 items-zero t c bs at h =
     let e : length bs - length (drop at bs) ≡ at = omega (arith, length-drop at bs) in
-    ap (λ (i : ℕ). Found (record { next = record { at = i }; size = 0 })) e
+    ap (λ (i : ℕ). Some (record { next = record { at = i }; size = 0 })) e
 
 -- one iteration, then the others
 pub items-suc :
@@ -114,20 +113,20 @@ unfolding fit_items fit_at
 items-suc t c n bs at h =
     span-chain more (λ v w. refl) bs at (non_empty (decode t c (exp_of t c) (drop at bs))) (decode_items (λ o. decode t c (exp_of t c) o) n)
     (λ v rest e. decode-over t c (exp_of t c) bs at h v rest (non_empty-over (decode t c (exp_of t c) (drop at bs)) v rest e))
-    ∙ ap (λ (f : Fit). then_fit f (λ next. span_of (length bs) (decode_items (λ o. decode t c (exp_of t c) o) n (drop next bs))))
+    ∙ ap (λ (f : Option Span). then_fit f (λ next. span_of (length bs) (decode_items (λ o. decode t c (exp_of t c) o) n (drop next bs))))
     (span-non_empty (length bs) (decode t c (exp_of t c) (drop at bs)))
 
 -- what is known of the record at a place by its shape
-abbrev pub Known : ℕ → List ℕ → ℕ → Shape → Type 0
-Known k bs at (Leaf n) = (at + record_size ≤ length bs) × (n ≤ 1)
-Known k bs at (Left c) = (at + record_size ≤ length bs) × (c < k)
-Known k bs at (Right c) = (at + record_size ≤ length bs) × (c < k)
-Known k bs at (Both c d) = (at + record_size ≤ length bs) × (c < k) × (d < k)
-Known k bs at (Many c n) = (at + record_size ≤ length bs) × (c < k)
-Known k bs at Wrong = Unit {0}
+abbrev pub Known : ℕ → List ℕ → ℕ → Option Shape → Type 0
+Known k bs at (Some (Leaf n)) = (at + record_size ≤ length bs) × (n ≤ 1)
+Known k bs at (Some (Left c)) = (at + record_size ≤ length bs) × (c < k)
+Known k bs at (Some (Right c)) = (at + record_size ≤ length bs) × (c < k)
+Known k bs at (Some (Both c d)) = (at + record_size ≤ length bs) × (c < k) × (d < k)
+Known k bs at (Some (Many c n)) = (at + record_size ≤ length bs) × (c < k)
+Known k bs at None = Unit {0}
 
 -- the shape of a place's record: what is known of it, and what decoding finds there, if the length that is written is the one that is spelled
-pub record Shaped (t : List ℕ) (k : ℕ) (bs : List ℕ) (at : ℕ) (s : Shape) : Type 0 where
+pub record Shaped (t : List ℕ) (k : ℕ) (bs : List ℕ) (at : ℕ) (s : Option Shape) : Type 0 where
   pub known : Known k bs at s
   pub decoded : decode t k (exp_of t k) (drop at bs) ≡ held (record_at bs at).size (decode_by t bs at s)
 
@@ -157,15 +156,15 @@ module _ (t : List ℕ) (p : Passes t) (k : ℕ) (l : k < count t) (bs : List �
   rest = drop (at + record_size) bs
 
   -- what is found below the record, and its shape
-  abbrev Found-as : Decoded → Shape → Type 0
-  Found-as d s = (d ≡ decode_by t bs at s) × Known k bs at s
+  abbrev Some-as : Decoded → Option Shape → Type 0
+  Some-as d s = (d ≡ decode_by t bs at s) × Known k bs at s
 
   -- a test picks what is found and the shape together
-  picked : (b : Bool) {d e : Decoded} (s u : Shape) → Found-as d s → Found-as e u → Found-as (pick b d e) (pick_shape b s u)
+  picked : (b : Bool) {d e : Decoded} (s u : Option Shape) → Some-as d s → Some-as e u → Some-as (pick b d e) (pick_shape b s u)
   picked true s u f g = f
   picked false s u f g = g
 
-  wrong : Found-as unfit Wrong
+  wrong : Some-as unfit None
   wrong = (refl, tt)
 
   -- where a record is left, by the kind of record k: what is found below the record
@@ -174,7 +173,7 @@ module _ (t : List ℕ) (p : Passes t) (k : ℕ) (l : k < count t) (bs : List �
     decoded-as :
         decode t k (exp_of t k) (record_bytes (record_at bs at) ++ rest)
         ≡ held (record_at bs at).size (pick (eqb (record_at bs at).number k) below unfit)
-    found_as : Found-as below (shape_of kind (a_at t k) (b_at t k) x y)
+    found_as : Some-as below (shape_of kind (a_at t k) (b_at t k) x y)
 
   full-letter : (kind : ℕ) (s : ByteSet) → at + record_size ≤ length bs → exp_of t k ≡ letter s → shape_of kind (a_at t k) (b_at t k) x y ≡ letter_shape s x y → Full kind
   unfolding x y rest
@@ -182,7 +181,7 @@ module _ (t : List ℕ) (p : Passes t) (k : ℕ) (l : k < count t) (bs : List �
       record {
         below = pick (eqb x 1 && holds s y) (fits (byte y) rest) unfit;
         decoded-as = rw e refl;
-        found_as = subst (Found-as _) (sym f) (picked (eqb x 1 && holds s y) (Leaf 1) Wrong (refl, (h, omega arith)) wrong);
+        found_as = subst (Some-as _) (sym f) (picked (eqb x 1 && holds s y) (Some (Leaf 1)) None (refl, (h, omega arith)) wrong);
       }
 
   full : at + record_size ≤ length bs → (kind : ℕ) → kind_at t k ≡ kind → Full kind
@@ -193,7 +192,7 @@ module _ (t : List ℕ) (p : Passes t) (k : ℕ) (l : k < count t) (bs : List �
       record {
         below = pick (eqb x 0 && eqb y 0) (fits void rest) unfit;
         decoded-as = rw (exp-empty t k e) refl;
-        found_as = picked (eqb x 0 && eqb y 0) (Leaf 0) Wrong (refl, (h, omega arith)) wrong;
+        found_as = picked (eqb x 0 && eqb y 0) (Some (Leaf 0)) None (refl, (h, omega arith)) wrong;
       }
   full h (suc (suc zero)) e =
       full-letter 2 (within (a_at t k) (b_at t k)) h (exp-letter t k (letter_at t k refl (inl e)) ∙ rw e) refl
@@ -206,8 +205,8 @@ module _ (t : List ℕ) (p : Passes t) (k : ℕ) (l : k < count t) (bs : List �
             (pick (eqb x 3 && eqb y 0) (under right (decode t (b_at t k) (exp_of t (b_at t k)) rest)) unfit);
         decoded-as = rw (exp-or t k e a b) refl;
         found_as =
-            picked (eqb x 2 && eqb y 0) (Left (a_at t k)) (pick_shape (eqb x 3 && eqb y 0) (Right (b_at t k)) Wrong) (refl, (h, a))
-            (picked (eqb x 3 && eqb y 0) (Right (b_at t k)) Wrong (refl, (h, b)) wrong);
+            picked (eqb x 2 && eqb y 0) (Some (Left (a_at t k))) (pick_shape (eqb x 3 && eqb y 0) (Some (Right (b_at t k))) None) (refl, (h, a))
+            (picked (eqb x 3 && eqb y 0) (Some (Right (b_at t k))) None (refl, (h, b)) wrong);
       }
   full h (suc (suc (suc (suc zero)))) e =
       let a : a_at t k < k = a-below t p k l (inr e) in
@@ -217,14 +216,14 @@ module _ (t : List ℕ) (p : Passes t) (k : ℕ) (l : k < count t) (bs : List �
             pick (eqb x 4 && eqb y 0)
             (chain pair (decode t (a_at t k) (exp_of t (a_at t k)) rest) (λ o. decode t (b_at t k) (exp_of t (b_at t k)) o)) unfit;
         decoded-as = rw (exp-seq t k e a b) refl;
-        found_as = picked (eqb x 4 && eqb y 0) (Both (a_at t k) (b_at t k)) Wrong (refl, (h, a, b)) wrong;
+        found_as = picked (eqb x 4 && eqb y 0) (Some (Both (a_at t k) (b_at t k))) None (refl, (h, a, b)) wrong;
       }
   full h (suc (suc (suc (suc (suc zero))))) e =
       let a : a_at t k < k = star-a-below t p k l e in
       record {
         below = pick (eqb x 5) (decode_items (λ o. decode t (a_at t k) (exp_of t (a_at t k)) o) y rest) unfit;
         decoded-as = rw (exp-star t k e a) refl;
-        found_as = picked (eqb x 5) (Many (a_at t k) y) Wrong (refl, (h, a)) wrong;
+        found_as = picked (eqb x 5) (Some (Many (a_at t k) y)) None (refl, (h, a)) wrong;
       }
   full h (suc (suc (suc (suc (suc (suc zero)))))) e =
       full-letter 6 (outside (a_at t k) (b_at t k)) h (exp-letter t k (letter_at t k refl (inr e)) ∙ rw e) refl
@@ -235,12 +234,12 @@ module _ (t : List ℕ) (p : Passes t) (k : ℕ) (l : k < count t) (bs : List �
   unfolding shape_at x y rest
   shaped = go (leb (at + record_size) (length bs)) refl
     where
-      go : (b : Bool) → leb (at + record_size) (length bs) ≡ b → Shaped t k bs at (pick_shape b (shape_by t k x y (record_at bs at).number) Wrong)
+      go : (b : Bool) → leb (at + record_size) (length bs) ≡ b → Shaped t k bs at (pick_shape b (shape_by t k x y (record_at bs at).number) None)
       go true e =
           let f : at + record_size ≤ length bs = leb-true _ _ e in
           let g : Full (kind_at t k) = full f (kind_at t k) refl in
-          let n : Found-as (pick (eqb (record_at bs at).number k) g.below unfit) (shape_by t k x y (record_at bs at).number) =
-          picked (eqb (record_at bs at).number k) (shape_of (kind_at t k) (a_at t k) (b_at t k) x y) Wrong g.found_as wrong in
+          let n : Some-as (pick (eqb (record_at bs at).number k) g.below unfit) (shape_by t k x y (record_at bs at).number) =
+          picked (eqb (record_at bs at).number k) (shape_of (kind_at t k) (a_at t k) (b_at t k) x y) None g.found_as wrong in
           record {
             known = n.1;
             decoded = ap (decode t k (exp_of t k)) (drop-record bs at f) ∙ g.decoded-as ∙ ap (held (record_at bs at).size) n.0;
@@ -250,28 +249,28 @@ module _ (t : List ℕ) (p : Passes t) (k : ℕ) (l : k < count t) (bs : List �
           record { known = tt; decoded = decode-short t k (exp_of t k) (drop at bs) (omega (arith, length-drop at bs)) }
 
 -- the part of a record that ends a branch
-span-leaf : (bs : List ℕ) (at n y : ℕ) → at + record_size ≤ length bs → n ≤ 1 → span_of (length bs) (leaf n y (drop (at + record_size) bs)) ≡ Found (record { next = record { at = at + record_size }; size = n })
+span-leaf : (bs : List ℕ) (at n y : ℕ) → at + record_size ≤ length bs → n ≤ 1 → span_of (length bs) (leaf n y (drop (at + record_size) bs)) ≡ Some (record { next = record { at = at + record_size }; size = n })
 span-leaf bs at n y h l = go n l
   where
     end : length bs - length (drop (at + record_size) bs) ≡ at + record_size
     end = omega (arith, length-drop (at + record_size) bs)
 
-    go : (n : ℕ) → n ≤ 1 → span_of (length bs) (leaf n y (drop (at + record_size) bs)) ≡ Found (record { next = record { at = at + record_size }; size = n })
-    go zero l = ap (λ (i : ℕ). Found (record { next = record { at = i }; size = 0 })) end
-    go (suc zero) l = ap (λ (i : ℕ). Found (record { next = record { at = i }; size = 1 })) end
+    go : (n : ℕ) → n ≤ 1 → span_of (length bs) (leaf n y (drop (at + record_size) bs)) ≡ Some (record { next = record { at = at + record_size }; size = n })
+    go zero l = ap (λ (i : ℕ). Some (record { next = record { at = i }; size = 0 })) end
+    go (suc zero) l = ap (λ (i : ℕ). Some (record { next = record { at = i }; size = 1 })) end
     go (suc (suc n)) l = absurd (omega arith)
 
 -- the part at a place by the shape of its record
-span-by : (t : List ℕ) (k : ℕ) (bs : List ℕ) (at : ℕ) (s : Shape) → Known k bs at s → span_of (length bs) (decode_by t bs at s) ≡ fit_by t bs at s
+span-by : (t : List ℕ) (k : ℕ) (bs : List ℕ) (at : ℕ) (s : Option Shape) → Known k bs at s → span_of (length bs) (decode_by t bs at s) ≡ fit_by t bs at s
 unfolding fit_at fit_items
-span-by t k bs at (Leaf n) w = span-leaf bs at n (record_at bs at).argument w.0 w.1
-span-by t k bs at (Left c) w = span-under left (λ v. refl) (length bs) (decode t c (exp_of t c) (drop (at + record_size) bs))
-span-by t k bs at (Right c) w = span-under right (λ v. refl) (length bs) (decode t c (exp_of t c) (drop (at + record_size) bs))
-span-by t k bs at (Both c d) w =
+span-by t k bs at (Some (Leaf n)) w = span-leaf bs at n (record_at bs at).argument w.0 w.1
+span-by t k bs at (Some (Left c)) w = span-under left (λ v. refl) (length bs) (decode t c (exp_of t c) (drop (at + record_size) bs))
+span-by t k bs at (Some (Right c)) w = span-under right (λ v. refl) (length bs) (decode t c (exp_of t c) (drop (at + record_size) bs))
+span-by t k bs at (Some (Both c d)) w =
     span-chain pair (λ v u. refl) bs (at + record_size) (decode t c (exp_of t c) (drop (at + record_size) bs)) (λ o. decode t d (exp_of t d) o)
     (λ v rest e. decode-over t c (exp_of t c) bs (at + record_size) w.0 v rest e)
-span-by t k bs at (Many c n) w = refl
-span-by t k bs at Wrong w = refl
+span-by t k bs at (Some (Many c n)) w = refl
+span-by t k bs at None w = refl
 
 -- a part whose length is held against the one that is written
 span-held : (n m : ℕ) (d : Decoded) → span_of n (held m d) ≡ held_part m (span_of n d)
@@ -279,7 +278,7 @@ span-held n m (fits v rest) = go (is_length m (length (flat v)))
   where
     go :
         (b : Bool)
-        → span_of n (pick b (fits v rest) unfit) ≡ fit_if b (Found (record { next = record { at = n - length rest }; size = length (flat v) }))
+        → span_of n (pick b (fits v rest) unfit) ≡ fit_if b (Some (record { next = record { at = n - length rest }; size = length (flat v) }))
     go true = refl
     go false = refl
 span-held n m unfit = refl
@@ -294,32 +293,32 @@ module _ (t : List ℕ) (p : Passes t) (k : ℕ) (l : k < count t) (bs : List �
       ∙ ap (held_part (record_at bs at).size) (span-by t k bs at (shape_at t k bs at) (shaped t p k l bs at).known)
 
   -- a part has a record
-  pub length-there : {s : Span} → length_at t k bs at ≡ Found s → at + record_size ≤ length bs
+  pub length-there : {s : Span} → length_at t k bs at ≡ Some s → at + record_size ≤ length bs
   unfolding length_at
   length-there {s} e = go (shape_at t k bs at) (shaped t p k l bs at).known e
     where
-      go : (u : Shape) → Known k bs at u → fit_by t bs at u ≡ Found s → at + record_size ≤ length bs
-      go (Leaf n) w f = w.0
-      go (Left c) w f = w.0
-      go (Right c) w f = w.0
-      go (Both c d) w f = w.0
-      go (Many c n) w f = w.0
-      go Wrong w f = let z : ◌≡◌ {A = ℕ} 0 1 = cc in absurd (omega arith)
+      go : (u : Option Shape) → Known k bs at u → fit_by t bs at u ≡ Some s → at + record_size ≤ length bs
+      go (Some (Leaf n)) w f = w.0
+      go (Some (Left c)) w f = w.0
+      go (Some (Right c)) w f = w.0
+      go (Some (Both c d)) w f = w.0
+      go (Some (Many c n)) w f = w.0
+      go None w f = let z : ◌≡◌ {A = ℕ} 0 1 = cc in absurd (omega arith)
 
   -- the ways out of `fit_element`: the length that is written is the sum, or is not, or no part is there
-  pub held_found : {r : Fit} {s : Span} {n : ℕ} → r ≡ length_at t k bs at → r ≡ Found s → n ≡ (record_at bs at).size → n < 256 → n ≡ s.size → Found s ≡ fit_at t k bs at
+  pub held_found : {r : Option Span} {s : Span} {n : ℕ} → r ≡ length_at t k bs at → r ≡ Some s → n ≡ (record_at bs at).size → n < 256 → n ≡ s.size → Some s ≡ fit_at t k bs at
   held_found {r} {s} {n} e f g h i =
       sym
       (fit-held ∙ ap (held_part (record_at bs at).size) (sym e ∙ f)
-      ∙ ap (λ (b : Bool). fit_if b (Found s)) (length-written (record_at bs at).size s.size (sym g ∙ i) (omega arith)))
+      ∙ ap (λ (b : Bool). fit_if b (Some s)) (length-written (record_at bs at).size s.size (sym g ∙ i) (omega arith)))
 
-  pub held-other : {r : Fit} {s : Span} {n : ℕ} → r ≡ length_at t k bs at → r ≡ Found s → n ≡ (record_at bs at).size → ¬ (n ≡ s.size) → Unfit ≡ fit_at t k bs at
+  pub held-other : {r : Option Span} {s : Span} {n : ℕ} → r ≡ length_at t k bs at → r ≡ Some s → n ≡ (record_at bs at).size → ¬ (n ≡ s.size) → None ≡ fit_at t k bs at
   held-other {r} {s} {n} e f g i =
       sym
       (fit-held ∙ ap (held_part (record_at bs at).size) (sym e ∙ f)
-      ∙ ap (λ (b : Bool). fit_if (b && leb (record_at bs at).size 255) (Found s)) (ne_eqb (record_at bs at).size s.size (λ z. i (g ∙ z))))
+      ∙ ap (λ (b : Bool). fit_if (b && leb (record_at bs at).size 255) (Some s)) (ne_eqb (record_at bs at).size s.size (λ z. i (g ∙ z))))
 
-  pub held-unfit : {r : Fit} → r ≡ length_at t k bs at → r ≡ Unfit → Unfit ≡ fit_at t k bs at
+  pub held-unfit : {r : Option Span} → r ≡ length_at t k bs at → r ≡ None → None ≡ fit_at t k bs at
   held-unfit {r} e f = sym (fit-held ∙ ap (held_part (record_at bs at).size) (sym e ∙ f))
 
 -- where a part that was found ends, and how many bytes it can spell
@@ -330,7 +329,7 @@ pub record Bounds (bs : List ℕ) (at : ℕ) (s : Span) : Type 0 where
 
 span-bounds :
     (t : List ℕ) (k : ℕ) (r : Exp) (bs : List ℕ) (at : ℕ) → at ≤ length bs
-    → (d : Decoded) → decode t k r (drop at bs) ≡ d → (s : Span) → span_of (length bs) d ≡ Found s → Bounds bs at s
+    → (d : Decoded) → decode t k r (drop at bs) ≡ d → (s : Span) → span_of (length bs) d ≡ Some s → Bounds bs at s
 span-bounds t k r bs at h (fits v rest) e s f =
     let x : Reads r v × (drop at bs ≡ encode t k v ++ rest) × (length (flat v) ≤ 255) = decode-sound t k r (drop at bs) v rest e in
     let l : length bs - at ≡ length (encode t k v) + length rest = sym (length-drop at bs) ∙ ap length x.1 ∙ length-append (encode t k v) rest in
@@ -345,6 +344,6 @@ span-bounds t k r bs at h (fits v rest) e s f =
 span-bounds t k r bs at h unfit e s f = let z : ◌≡◌ {A = ℕ} 0 1 = cc in absurd (omega arith)
 
 -- a part ends inside the reading, and spells at most a byte for each of its records, and at most 255
-pub fit-bounds : (t : List ℕ) (k : ℕ) (bs : List ℕ) (at : ℕ) → at ≤ length bs → (s : Span) → fit_at t k bs at ≡ Found s → Bounds bs at s
+pub fit-bounds : (t : List ℕ) (k : ℕ) (bs : List ℕ) (at : ℕ) → at ≤ length bs → (s : Span) → fit_at t k bs at ≡ Some s → Bounds bs at s
 unfolding fit_at
 fit-bounds t k bs at h s e = span-bounds t k (exp_of t k) bs at h (decode t k (exp_of t k) (drop at bs)) refl s e

@@ -4,5 +4,6 @@ pub mod Codec
 pub mod Fitting
 pub mod Calls
 -- What only the functions inside, here and in the crates above, are given and leave.
+pub mod ValueKinds
 pub mod Walks
 pub mod Writing

@@ -1,30 +1,61 @@
 // Readings as bytes: fitting, and Spell.
 #![tactic(auto)]
 
-ghost use Rattle.std.specs.Prelude.{◌+◌, ◌*◌, ◌≤◌, ◌<◌, ◌≡◌, ◌++◌, length, drop};
+ghost use Rattle.std.specs.Prelude.{ℕ, Option, Some, IfOk, ◌+◌, ◌*◌, ◌≤◌, ◌<◌, ◌≡◌, ◌++◌, length, drop};
 ghost use Rattle.std.proofs.lemmas.List.Edits.{sets};
 ghost use Rattle.table.specs.Records.{count};
 ghost use Rattle.table.specs.Faults.{Passes};
-ghost use Rattle.table.specs.Answers.{says, gives};
+ghost use Rattle.table.specs.Kinds.{number_of};
+ghost use Rattle.table.specs.Answers.{says, gives, rules_say};
 ghost use Rattle.reading.specs.Codec.{record_size, record_with, record_at};
 ghost use Rattle.reading.specs.Fitting.{spelled, stepped};
+ghost use Rattle.reading.specs.ValueKinds.{value_number, Decodes};
 ghost use Rattle.reading.specs.Walks.{shape_of, shape_at, length_at, fit_at, fit_items, whole_at};
 ghost use Rattle.reading.specs.Calls.{if_start, spell_says, spell_leaves};
 
-use table::{Answer, Refusal};
+use table::{Kind, Refusal, Rules};
 
-// The kinds of a reading's record. BOTH is document 01's Seq.
-pub const VOID: u8 = 0;
+// The kind of a reading's record, in the order of their numbers. Both is document 01's Seq.
+#[derive(Clone, Copy, Debug, PartialEq, Eq)]
+pub enum ValueKind {
+    Void,
+    Byte,
+    Left,
+    Right,
+    Both,
+    Stars,
+}
 
-pub const BYTE: u8 = 1;
+// A number that no kind of a reading's record has.
+#[derive(Clone, Copy, Debug, PartialEq, Eq)]
+pub struct UnknownKind(pub u8);
 
-pub const LEFT: u8 = 2;
+impl TryFrom<u8> for ValueKind {
+    type Error = UnknownKind;
 
-pub const RIGHT: u8 = 3;
+    ghost try_from_gives = { Decodes };
 
-pub const BOTH: u8 = 4;
+    fn try_from(number: u8) -> Result<ValueKind, UnknownKind> {
+        match number {
+            0 => Ok(ValueKind::Void),
+            1 => Ok(ValueKind::Byte),
+            2 => Ok(ValueKind::Left),
+            3 => Ok(ValueKind::Right),
+            4 => Ok(ValueKind::Both),
+            5 => Ok(ValueKind::Stars),
+            _ => Err(UnknownKind(number)),
+        }
+    }
+}
 
-pub const STARS: u8 = 5;
+impl ValueKind {
+    // The kind's number.
+    pub fn number(self) -> u8
+        ensures { result ≡ value_number self }
+    {
+        self as u8
+    }
+}
 
 // A place in a reading: the number of the byte at which a record starts.
 #[derive(Clone, Copy)]
@@ -39,30 +70,15 @@ pub struct Span {
     pub size: usize,
 }
 
-// What fitting finds at a place.
-#[derive(Drop)]
-pub enum Fit {
-    Found(Span),
-    Unfit,
-}
-
 // What a reading's record is by the table record that is to read it: one that ends a branch and spells so many bytes, Left or Right with
-// the child's number, Seq with both, Stars with the child's number and the count, or a record that does not fit.
-#[derive(Drop)]
+// the child's number, Seq with both, or Stars with the child's number and the count.
+#[derive(Clone, Copy)]
 pub enum Shape {
     Leaf(usize),
     Left(usize),
     Right(usize),
     Both(usize, usize),
     Many(usize, usize),
-    Wrong,
-}
-
-// What a whole byte sequence is: a reading that spells so many bytes, or one that does not fit.
-#[derive(Drop)]
-pub enum Whole {
-    Spells(usize),
-    Misfit,
 }
 
 impl Place {
@@ -74,13 +90,10 @@ impl Place {
         ensures { result.at ≡ stepped reading.now self.at }
     {
         let at = self.at;
-        let n = reading.len();
-        if at < n {
-            if Place::RECORD <= n - at {
-                return Place {
-                    at: at + Place::RECORD,
-                };
-            }
+        if at <= reading.len() && Place::RECORD <= reading.len() - at {
+            return Place {
+                at: at + Place::RECORD,
+            };
         }
         Place { at }
     }
@@ -131,76 +144,37 @@ pub fn store_record(out: &mut [u8], at: usize, kind: u8, argument: u8, size: usi
     out[at + 3] = number as u8;
 }
 
-// The shape of a reading's record x, y by a table record of a kind, a, b.
-fn shape_of(kind: u8, a: u8, b: u8, x: u8, y: u8) -> Shape
-    ensures { result ≡ shape_of kind a b x y }
+// The shape of a reading's record x, y by a table record of a kind, a, b, if it fits.
+fn shape_of(kind: Kind, a: u8, b: u8, x: u8, y: u8) -> Option<Shape>
+    ensures { result ≡ shape_of (number_of kind) a b x y }
 {
-    match kind {
-        table::EMPTY => {
-            if x == VOID {
-                if y == 0 {
-                    return Shape::Leaf(0);
-                }
-            }
-            Shape::Wrong
-        }
-        table::RANGE | table::OTHER => {
-            if x == BYTE {
-                if table::letter_holds(kind, a, b, y) {
-                    return Shape::Leaf(1);
-                }
-            }
-            Shape::Wrong
-        }
-        table::OR => {
-            if y == 0 {
-                if x == LEFT {
-                    return Shape::Left(a as usize);
-                }
-                if x == RIGHT {
-                    return Shape::Right(b as usize);
-                }
-            }
-            Shape::Wrong
-        }
-        table::SEQ => {
-            if y == 0 {
-                if x == BOTH {
-                    return Shape::Both(a as usize, b as usize);
-                }
-            }
-            Shape::Wrong
-        }
-        table::STAR => {
-            if x == STARS {
-                return Shape::Many(a as usize, y as usize);
-            }
-            Shape::Wrong
-        }
-        _ => Shape::Wrong,
+    let value = ValueKind::try_from(x).ok()?;
+    match (kind, value) {
+        (Kind::Empty, ValueKind::Void) if y == 0 => Some(Shape::Leaf(0)),
+        (Kind::Range | Kind::Other, ValueKind::Byte)
+            if table::letter_holds(kind.number(), a, b, y) => { Some(Shape::Leaf(1)) }
+        (Kind::Or, ValueKind::Left) if y == 0 => Some(Shape::Left(a as usize)),
+        (Kind::Or, ValueKind::Right) if y == 0 => Some(Shape::Right(b as usize)),
+        (Kind::Seq, ValueKind::Both) if y == 0 => Some(Shape::Both(a as usize, b as usize)),
+        (Kind::Star, ValueKind::Stars) => Some(Shape::Many(a as usize, y as usize)),
+        _ => None,
     }
 }
 
-// The shape of the record at a place, by table record k.
-fn look(table: &[u8], k: usize, reading: &[u8], place: Place) -> Shape
-    requires { 4 * k + 3 < length table.now }
-    ensures { result ≡ shape_at table.now k reading.now place.at }
+// The shape of the record at a place, by table record k, if it fits.
+fn look(table: &Rules, k: usize, reading: &[u8], place: Place) -> Option<Shape>
+    requires { k < count table.now }
+    ensures shape { result ≡ shape_at table.now k reading.now place.at }
+    ensures passes { Passes table.now }
 {
+    let kind = table.kind_at(k);
     let at = place.at;
     let n = reading.len();
-    if n <= at {
-        return Shape::Wrong;
+    if n <= at || n - at < Place::RECORD || record_number(reading, at) != k {
+        return None;
     }
-    if n - at < Place::RECORD {
-        return Shape::Wrong;
-    }
-    let number = record_number(reading, at);
-    if number != k {
-        return Shape::Wrong;
-    }
-    let kind = table::kind_at(table, k);
-    let a = table::a_at(table, k);
-    let b = table::b_at(table, k);
+    let a = table.a_at(k);
+    let b = table.b_at(k);
     let x = record_kind(reading, at);
     let y = record_argument(reading, at);
     shape_of(kind, a, b, x, y)
@@ -209,119 +183,94 @@ fn look(table: &[u8], k: usize, reading: &[u8], place: Place) -> Shape
 // The part that starts at a place, by record k: an element, whose iterations are elements again of a lower record. The length that is written for it
 // is the one that it spells.
 #[cycle(fitting)]
-fn fit_element(table: &[u8], k: usize, reading: &[u8], place: Place) -> Fit
-    requires passes { Passes table.now }
+fn fit_element(table: &Rules, k: usize, reading: &[u8], place: Place) -> Option<Span>
     requires inside { k < count table.now }
     requires placed { place.at ≤ length reading.now }
     ensures { result ≡ fit_at table.now k reading.now place.at }
 {
-    match part_length(table, k, reading, place) {
-        Fit::Found(part) => {
-            let written = record_length(reading, place.at) as usize;
-            if written == part.size {
-                return Fit::Found(part);
-            }
-            Fit::Unfit
-        }
-        Fit::Unfit => Fit::Unfit,
+    let part = part_length(table, k, reading, place)?;
+    let written = record_length(reading, place.at) as usize;
+    if written == part.size {
+        Some(part)
+    } else {
+        None
     }
 }
 
 // The part that starts at a place, by record k, with the length that it spells, the sum over its children: each of them is fitted, which holds the
 // length that is written for it against its own sum.
 #[cycle(fitting)]
-pub fn part_length(table: &[u8], k: usize, reading: &[u8], place: Place) -> Fit
-    requires passes { Passes table.now }
+pub fn part_length(table: &Rules, k: usize, reading: &[u8], place: Place) -> Option<Span>
     requires inside { k < count table.now }
     requires placed { place.at ≤ length reading.now }
-    ensures { result ≡ length_at table.now k reading.now place.at }
+    ensures length { result ≡ length_at table.now k reading.now place.at }
+    ensures passes { Passes table.now }
 {
     let next = place.step(reading);
-    match look(table, k, reading, place) {
-        Shape::Leaf(size) => Fit::Found(Span { next, size }),
-        Shape::Left(c) => fit_element(table, c, reading, next),
-        Shape::Right(c) => fit_element(table, c, reading, next),
-        Shape::Both(c, d) => match fit_element(table, c, reading, next) {
-            Fit::Found(first) => {
-                let after = first.next;
-                match fit_element(table, d, reading, after) {
-                    Fit::Found(second) => {
-                        let end = second.next;
-                        Fit::Found(Span {
-                            next: end,
-                            size: first.size + second.size,
-                        })
-                    }
-                    Fit::Unfit => Fit::Unfit,
-                }
-            }
-            Fit::Unfit => Fit::Unfit,
-        },
+    match look(table, k, reading, place)? {
+        Shape::Leaf(size) => Some(Span { next, size }),
+        Shape::Left(c) | Shape::Right(c) => fit_element(table, c, reading, next),
+        Shape::Both(c, d) => {
+            let first = fit_element(table, c, reading, next)?;
+            let second = fit_element(table, d, reading, first.next)?;
+            Some(Span {
+                next: second.next,
+                size: first.size + second.size,
+            })
+        }
         Shape::Many(c, n) => fit_iterations(table, c, n, reading, next),
-        Shape::Wrong => Fit::Unfit,
     }
 }
 
 // So many iterations that start at a place, each an element of record c that spells at least one byte.
 #[cycle(fitting)]
-fn fit_iterations(table: &[u8], c: usize, times: usize, reading: &[u8], place: Place) -> Fit
-    requires passes { Passes table.now }
+fn fit_iterations(
+    table: &Rules,
+    c: usize,
+    times: usize,
+    reading: &[u8],
+    place: Place,
+) -> Option<Span>
     requires inside { c < count table.now }
     requires placed { place.at ≤ length reading.now }
     ensures { result ≡ fit_items table.now c times reading.now place.at }
 {
-    let mut left = times;
-    let mut at = place;
+    let mut next = place;
     let mut size: usize = 0;
-    while 0 < left {
-        match fit_element(table, c, reading, at) {
-            Fit::Found(part) => {
-                let more = part.size;
-                if more == 0 {
-                    return Fit::Unfit;
-                }
-                size += more;
-                at = part.next;
-                left -= 1;
-            }
-            Fit::Unfit => return Fit::Unfit,
+    for _ in 0..times {
+        let part = fit_element(table, c, reading, next)?;
+        if part.size == 0 {
+            return None;
         }
+        size += part.size;
+        next = part.next;
     }
-    Fit::Found(Span { next: at, size })
+    Some(Span { next, size })
 }
 
 // How many bytes a byte sequence spells as a reading of record k, if it is one with no byte over.
-pub fn fit_whole(table: &[u8], k: usize, reading: &[u8]) -> Whole
-    requires passes { Passes table.now }
-    requires inside { k < count table.now }
+pub fn fit_whole(table: &Rules, k: usize, reading: &[u8]) -> Option<usize>
+    requires { k < count table.now }
     ensures { result ≡ whole_at table.now k reading.now }
 {
-    match fit_element(table, k, reading, Place { at: 0 }) {
-        Fit::Found(part) => {
-            let end = part.next;
-            let size = part.size;
-            let at = end.at;
-            if at == reading.len() {
-                return Whole::Spells(size);
-            }
-            Whole::Misfit
-        }
-        Fit::Unfit => Whole::Misfit,
+    let part = fit_element(table, k, reading, Place { at: 0 })?;
+    if part.next.at == reading.len() {
+        Some(part.size)
+    } else {
+        None
     }
 }
 
-// The number of records of a table that passes and has the start record, or refusal 1 to 6 or 9.
-pub fn admit(table: &[u8], start: usize) -> Answer
-    ensures answer { says result ≡ if_start table.now start (gives (count table.now)) }
+// The rules of a table that passes and has the start record, or refusal 1 to 6 or 9.
+pub fn admit<'a>(table: &'a [u8], start: usize) -> Result<Rules<'a>, Refusal>
+    ensures answer { rules_say result ≡ if_start table.entry.now start (gives (count table.entry.now)) }
+    ensures rules { IfOk result (λ rules. rules ≡ table.entry.now) }
 {
-    match table::check(table) {
-        Answer::Done(m) => {
-            if start < m {
-                return Answer::Done(m);
-            }
-            Answer::Refused(Refusal::Start)
-        }
-        Answer::Refused(why) => Answer::Refused(why),
+    let rules = Rules::new(table)?;
+    if start < rules.count() {
+        Ok(rules)
+    } else {
+        Err(Refusal::Start)
     }
 }
 
@@ -337,7 +286,7 @@ pub fn spell_into(reading: &[u8], out: &mut [u8]) -> usize
     while Place::RECORD <= n - at {
         let kind = record_kind(reading, at);
         let argument = record_argument(reading, at);
-        if kind == BYTE {
+        if kind == ValueKind::Byte.number() {
             out[size] = argument;
             size += 1;
         }
@@ -347,21 +296,14 @@ pub fn spell_into(reading: &[u8], out: &mut [u8]) -> usize
 }
 
 // Spell: writes the Byte arguments of a fitting reading and returns their count.
-pub fn spell(table: &[u8], start: usize, reading: &[u8], out: &mut [u8]) -> Answer
+pub fn spell(table: &[u8], start: usize, reading: &[u8], out: &mut [u8]) -> Result<usize, Refusal>
     ensures answer { says result ≡ spell_says table.now start reading.now (length out.old) }
     ensures buffer { out.new ≡ spell_leaves table.now start reading.now out.old }
 {
-    let admitted = admit(table, start);
-    if let Answer::Refused(why) = admitted {
-        return Answer::Refused(why);
+    let rules = admit(table, start)?;
+    let size = fit_whole(&rules, start, reading).ok_or(Refusal::Unfit(0))?;
+    if out.len() < size {
+        return Err(Refusal::Buffer(size));
     }
-    match fit_whole(table, start, reading) {
-        Whole::Spells(size) => {
-            if out.len() < size {
-                return Answer::Refused(Refusal::Buffer(size));
-            }
-            Answer::Done(spell_into(reading, out))
-        }
-        Whole::Misfit => Answer::Refused(Refusal::Unfit(0)),
-    }
+    Ok(spell_into(reading, out))
 }

@@ -5,5 +5,6 @@ pub mod Children
 pub mod Nodes
 pub mod UpTo
 pub mod Checking
+pub mod Exits
 mod Letters
 mod Scan

@@ -257,6 +257,7 @@ pub fn check(table: &[u8]) -> Result<usize, Refusal>
 }
 
 // A table that passes Check. Contracts see its bytes.
+#[derive(Drop)]
 pub struct Rules<'a> {
     bytes: &'a [u8],
 }

@@ -1,6 +1,6 @@
 -- The record number falls: 3 k for the length of a part by record k, 3 k + 1 for fitting it, 3 c + 2 for iterations by record c, whose loop has the
--- invariant Walking and falls with the iterations left. Assumes nothing.
-use Rattle.std.proofs.Common.{◌+◌, ◌*◌}
+-- invariant Walking. Assumes nothing.
+use Rattle.std.proofs.Common.{◌+◌, ◌-◌, ◌*◌}
 use Rattle.reading.proofs.Parts.{Walking}
 use Rattle.reading.proofs.+fitting.Given as goal
 
@@ -13,8 +13,5 @@ decreases-fit_iterations l = 3 * l.c + 2
 abbrev pub decreases-part_length : goal.decreases-part_length
 decreases-part_length l = 3 * l.k
 
-abbrev pub invariant-fit_iterations-loop-left : goal.invariant-fit_iterations-loop-left
-invariant-fit_iterations-loop-left l = Walking l.table l.c l.times l.reading l.initial.at.at l.left l.at.at l.size
-
-abbrev pub decreases-fit_iterations-loop-left : goal.decreases-fit_iterations-loop-left
-decreases-fit_iterations-loop-left l = l.left
+abbrev pub invariant-fit_iterations-loop : goal.invariant-fit_iterations-loop
+invariant-fit_iterations-loop l = Walking l.table l.c l.times l.reading l.initial.next.at (l.times - l.counter) l.next.at l.size

@@ -4,32 +4,32 @@ use native.Mathlib.Omega.{arith}
 use mathlib.Core.Path.{sym, ◌∙◌}
 use Rattle.reading.proofs.Copying.{copy_start, copy-byte, copy-other, copy-room, copy-end, copy-length}
 use Rattle.reading.proofs.spell_into.Goals as goal
-use Rattle.reading.proofs.spell_into.Goals.{then-kind-eq-BYTE, else-kind-eq-BYTE}
+use Rattle.reading.proofs.spell_into.Goals.{then-kind-number, else-kind-number}
 
 pub loop-at-init : goal.loop-at-init
 loop-at-init c = copy_start c.args.reading.now c.args.out.now c.requires
 
 pub bounds-out-size : goal.bounds-out-size
 bounds-out-size c =
-    copy-room c.loop-at.invariant (omega (arith, c.loop-at.invariant.placed)) (sym c.record_kind-kind.ensures ∙ c.if-kind-eq-BYTE.true)
+    copy-room c.loop-at.invariant (omega (arith, c.loop-at.invariant.placed)) (sym c.record_kind-kind.ensures ∙ c.if-kind-number.true ∙ c.number.ensures)
 
 pub overflow_add-size : goal.overflow_add-size
 overflow_add-size c =
     omega (
       arith,
       copy-room c.loop-at.invariant (omega (arith, c.loop-at.invariant.placed))
-          (sym c.record_kind-kind.ensures ∙ c.if-kind-eq-BYTE.true),
+          (sym c.record_kind-kind.ensures ∙ c.if-kind-number.true ∙ c.number.ensures),
       copy-length c.loop-at.invariant,
       c.well_formed,
     )
 
 pub loop-at-preserved : goal.loop-at-preserved
 loop-at-preserved c =
-    elim c.if-kind-eq-BYTE.branch [
-      | then-kind-eq-BYTE w ↦ copy-byte c.loop-at.invariant (omega (arith, c.loop-at.invariant.placed))
-          (sym c.record_kind-kind.ensures ∙ w.if-kind-eq-BYTE.true) w.out-is c.record_argument-argument.ensures w.size-is
-      | else-kind-eq-BYTE w ↦ copy-other c.loop-at.invariant (omega (arith, c.loop-at.invariant.placed))
-          (λ z. w.if-kind-eq-BYTE.false (c.record_kind-kind.ensures ∙ z)) w.out-is w.size-is
+    elim c.if-kind-number.branch [
+      | then-kind-number w ↦ copy-byte c.loop-at.invariant (omega (arith, c.loop-at.invariant.placed))
+          (sym c.record_kind-kind.ensures ∙ w.if-kind-number.true ∙ c.number.ensures) w.out-is c.record_argument-argument.ensures w.size-is
+      | else-kind-number w ↦ copy-other c.loop-at.invariant (omega (arith, c.loop-at.invariant.placed))
+          (λ z. w.if-kind-number.false (c.record_kind-kind.ensures ∙ z ∙ sym c.number.ensures)) w.out-is w.size-is
     ]
 
 pub shape_of-out : goal.shape_of-out

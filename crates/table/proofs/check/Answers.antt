@@ -1,6 +1,6 @@
 -- `table::check` meets its contract. Assumes nothing.
 use native.Mathlib.Omega.{arith}
-use Rattle.std.proofs.lemmas.Result.{err_from_is_err_and}
+use Rattle.table.proofs.Exits.{passed_on}
 use Rattle.table.proofs.Scan.{scan-start, scan-own, own-refused, named-refused, scan-next}
 use Rattle.table.proofs.check.Goals as goal
 
@@ -9,9 +9,8 @@ loop-k-init c = scan-start c.args.table.now c.if-size-eq0.false (omega arith) c.
 
 pub returns-in_err-own_fault : goal.returns-in_err-own_fault
 returns-in_err-own_fault c =
-    let p = err_from_is_err_and c.from_residual.result c.from_residual.ensures.1 in
     record {
-      answer = rw (p.1, p.2)
+      answer = rw (passed_on _ _ c.from_residual.ensures)
           (own-refused (scan-own _ _ _ _ c.loop-k.invariant c.loop-k-test.true c.own_fault.ensures) _ c.in_err-own_fault.was);
     }
 
