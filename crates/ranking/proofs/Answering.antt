@@ -9,10 +9,9 @@ use Rattle.posix.specs.Values.{flat}
 use Rattle.posix.specs.Decision.{Parsed, found, missing}
 use Rattle.posix.specs.Ranking.{rank}
 use Rattle.table.specs.declared.Refusal.{Refusal}
-use Rattle.table.specs.declared.Answer.{Answer}
-use Rattle.table.specs.declared.Answer.TheVariants.{Done, Refused}
+use Rattle.std.specs.Prelude.{Result, Ok, Err}
 use Rattle.table.specs.Records.{count}
-use Rattle.table.specs.Answers.{Said, gives, refuses, refusal, says}
+use Rattle.table.specs.Answers.{Said, gives, refuses, refusal, says, rules_say}
 use Rattle.table.specs.Checked.{or_else}
 use Rattle.reading.specs.Codec.{records_of}
 use Rattle.reading.specs.Fitting.{Fits, spelled, reading_of}
@@ -42,7 +41,7 @@ module _ {t : List ℕ} {k : ℕ} {bs cs : List ℕ} (f : Fits t k bs) (g : Fits
 
 -- 1 to 6 and 9
 pub compare-table :
-    (t : List ℕ) (k : ℕ) (bs cs : List ℕ) (r : Answer) (why : Refusal) → says r ≡ if_start t k (gives (count t)) → r ≡ Refused why
+    (t : List ℕ) (k : ℕ) (bs cs : List ℕ) (r : Result (List ℕ) Refusal) (why : Refusal) → rules_say r ≡ if_start t k (gives (count t)) → r ≡ Err why
     → refusal why ≡ compare_says t k bs cs
 unfolding compare_says
 compare-table t k bs cs r why e f = not-admitted t k r why e f (compare_parsed (reading_of t k bs) (reading_of t k cs))
@@ -68,7 +67,7 @@ module _ (t : List ℕ) (k : ℕ) (bs cs : List ℕ) (a : Admitted t k) where
       e ∙ sym (a.said_on (compare_parsed (reading_of t k bs) (reading_of t k cs)) ∙ ap₂ compare_parsed (fits-found f) (fits-found g))
 
 -- what Earlier goes by
-pub chosen-first : (r : Answer) (said : Said) (n : ℕ) → says r ≡ said → r ≡ Done n → n < 2 → chosen said ≡ the_first
+pub chosen-first : (r : Result ℕ Refusal) (said : Said) (n : ℕ) → says r ≡ said → r ≡ Ok n → n < 2 → chosen said ≡ the_first
 chosen-first r said n e f h = ap chosen (sym e ∙ ap says f) ∙ go n h
   where
     go : (n : ℕ) → n < 2 → chosen (gives n) ≡ the_first
@@ -76,7 +75,7 @@ chosen-first r said n e f h = ap chosen (sym e ∙ ap says f) ∙ go n h
     go (suc zero) h = refl
     go (suc (suc n)) h = absurd (omega arith)
 
-pub chosen-second : (r : Answer) (said : Said) (n : ℕ) → says r ≡ said → r ≡ Done n → 2 ≤ n → chosen said ≡ the_second
+pub chosen-second : (r : Result ℕ Refusal) (said : Said) (n : ℕ) → says r ≡ said → r ≡ Ok n → 2 ≤ n → chosen said ≡ the_second
 chosen-second r said n e f h = ap chosen (sym e ∙ ap says f) ∙ go n h
   where
     go : (n : ℕ) → 2 ≤ n → chosen (gives n) ≡ the_second
@@ -84,7 +83,7 @@ chosen-second r said n e f h = ap chosen (sym e ∙ ap says f) ∙ go n h
     go (suc zero) h = absurd (omega arith)
     go (suc (suc n)) h = refl
 
-pub chosen-neither : (r : Answer) (said : Said) (why : Refusal) → says r ≡ said → r ≡ Refused why → chosen said ≡ neither
+pub chosen-neither : (r : Result ℕ Refusal) (said : Said) (why : Refusal) → says r ≡ said → r ≡ Err why → chosen said ≡ neither
 chosen-neither r said why e f =
     let x : (n : ℕ) × (d : ℕ) × (refusal why ≡ refuses n d) = refusal-numbers why in
     ap chosen (sym e ∙ ap says f ∙ x.2)

@@ -1,10 +1,15 @@
 -- Verdicts as numbers: what holding two records against each other finds, and then two readings, record by record.
 -- Assumes nothing.
-use Prim.Native.Nat.{ℕ, ◌+◌, ◌≤◌, ◌<◌}
+use Prim.Native.Nat.{ℕ, ◌+◌, ◌≤◌, ◌<◌, min}
+use Rattle.std.specs.declared.cmp.Ordering.{Ordering}
+use Rattle.std.specs.declared.cmp.Ordering.TheVariants.{Less, Equal, Greater}
+use Rattle.std.specs.Ordering.{ordering_index}
+use Rattle.std.specs.Bool.{◌==◌}
 use mathlib.Core.Path.{◌≡◌, refl, sym, ◌∙◌, ap, ap₂}
-use mathlib.Core.Bool.{Bool, true, false}
+use mathlib.Core.Bool.{Bool, true, false, not, false≢true}
 use mathlib.Core.List.{List, [], ◌∷◌}
-use mathlib.Core.Logic.{◌⊎◌, ⊎_elim}
+use mathlib.Core.Logic.{◌⊎◌, inl, inr, ⊎_elim}
+use Rattle.std.proofs.lemmas.Bool.{cases_lt}
 use native.Mathlib.Omega.{arith}
 use borrow.Author.Tests.{ltb-true, ltb-false}
 use lib.Dec.{ltb}
@@ -14,7 +19,7 @@ use Rattle.posix.specs.RankingParts.{by_size, then_by}
 use Rattle.reading.specs.Codec.{record_size, Record, record_at, records_of}
 use Rattle.reading.proofs.Places.{records-next, records-end}
 use Rattle.ranking.specs.Answers.{verdict_number}
-use Rattle.ranking.specs.Records.{rank_records, RecordVerdict}
+use Rattle.ranking.specs.Records.{rank_records, RecordVerdict, order_number}
 use Rattle.ranking.proofs.Records.{size-then, ranked}
 
 -- the verdict of two records alone, as a number
@@ -59,6 +64,21 @@ next-stands v second e f z = absurd (omega arith)
 -- the verdict of the two records at a place
 abbrev ranked_at : List ℕ → List ℕ → ℕ → Verdict
 ranked_at bs cs at = rank_records (record_at bs at ∷ []) (record_at cs at ∷ [])
+
+-- an order is Equal just where its number is 0
+pub not-equal : (o : Ordering) → not (ordering_index o == 1) ≡ true → ¬ (order_number o ≡ 0)
+not-equal Less e = λ z. omega (arith, z)
+not-equal Equal e = absurd (false≢true e)
+not-equal Greater e = λ z. omega (arith, z)
+
+pub equal : (o : Ordering) → not (ordering_index o == 1) ≡ false → order_number o ≡ 0
+equal Less e = absurd (false≢true (sym e))
+equal Equal e = refl
+equal Greater e = absurd (false≢true (sym e))
+
+-- less than a record is left of the shorter of two
+pub shorter-over : (m n at : ℕ) → min m n < at + record_size → (m < at + record_size) ⊎ (n < at + record_size)
+shorter-over m n at h = ⊎_elim (λ l. inl (omega (arith, h, l))) (λ l. inr (omega (arith, h, l))) (cases_lt m n)
 
 -- the records before a place agree: those from there on decide
 pub record Agreeing (bs cs : List ℕ) (at : ℕ) : Type 0 where

@@ -1,6 +1,8 @@
 -- How two readings rank by their records, held against each other one by one: what only the functions inside go by (document 01, "Precedence of
 -- readings", and document 02, request 6).
 -- Assumes nothing.
+use Rattle.std.specs.declared.cmp.Ordering.{Ordering}
+use Rattle.std.specs.declared.cmp.Ordering.TheVariants.{Less, Equal, Greater}
 use Rattle.std.specs.Prelude.{ℕ, ◌<◌, ◌≡◌, List, [], ◌∷◌}
 use Rattle.posix.specs.Ranking.{Verdict, same}
 use Rattle.posix.specs.RankingParts.{by_size}
@@ -20,3 +22,9 @@ pub record RecordVerdict (r q : Record) (x : ℕ) : Type 0 where
   pub lower_first : r.size ≡ q.size → r.kind < q.kind → x ≡ 1
   pub lower_second : r.size ≡ q.size → q.kind < r.kind → x ≡ 2
   pub neither_ahead : r.size ≡ q.size → r.kind ≡ q.kind → x ≡ 0
+
+-- Compare's number for an order of two readings, by which the greater ranks ahead
+abbrev pub order_number : Ordering → ℕ
+order_number Equal = 0
+order_number Greater = 1
+order_number Less = 2
