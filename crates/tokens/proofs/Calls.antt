@@ -12,11 +12,10 @@ use lib.Seq.{sets}
 use Rattle.posix.specs.Values.{Val}
 use Rattle.posix.specs.Decision.{Parsed, missing}
 use Rattle.table.specs.declared.Refusal.{Refusal}
-use Rattle.table.specs.declared.Answer.{Answer}
-use Rattle.table.specs.declared.Answer.TheVariants.{Refused}
+use Rattle.std.specs.Prelude.{Result, Err}
 use Rattle.table.specs.Records.{count}
 use Rattle.table.specs.Faults.{Passes}
-use Rattle.table.specs.Answers.{Said, gives, refuses, refusal, says}
+use Rattle.table.specs.Answers.{Said, gives, refuses, refusal, rules_say}
 use Rattle.table.specs.Checked.{or_else}
 use Rattle.reading.specs.Fitting.{Fits, reading_of}
 use Rattle.table.specs.Buffers.{if_room, after}
@@ -54,7 +53,7 @@ module _ (t : List ℕ) (k : ℕ) (bs out : List ℕ) where
 
   -- 1 to 6 and 9
   pub tokens-table :
-      {r : Answer} (why : Refusal) → says r ≡ if_start t k (gives (count t)) → r ≡ Refused why
+      {r : Result (List ℕ) Refusal} (why : Refusal) → rules_say r ≡ if_start t k (gives (count t)) → r ≡ Err why
       → (refusal why ≡ tokens_says t k bs (length out)) × (out ≡ tokens_leaves t k bs out)
   unfolding tokens_says
   tokens-table {r} why e f =

@@ -9,11 +9,11 @@ ghost use Rattle.tokens.specs.Tokens.{token_bytes};
 ghost use Rattle.tokens.specs.Listed.{tokens_says, tokens_leaves};
 ghost use Rattle.tokens.specs.Walks.{width, list_reading, Listable, Passable, Passed};
 
-use reading::{Place, Whole};
-use table::{Answer, Refusal};
+use reading::{Place, ValueKind};
+use table::{Refusal, Rules};
 
 // The walk so far: the offset in the line, the offset where the last token ends, and the index in the buffer behind the tokens.
-#[derive(Drop)]
+#[derive(Clone, Copy)]
 pub struct Listing {
     pub offset: usize,
     pub end: usize,
@@ -40,7 +40,7 @@ fn put(out: &mut [u8], at: usize, tag: u8, offset: usize, size: usize, writing: 
 fn width_of(kind: u8) -> usize
     ensures { result ≡ width kind }
 {
-    if kind == reading::BYTE {
+    if kind == ValueKind::Byte.number() {
         return 1;
     }
     0
@@ -48,7 +48,7 @@ fn width_of(kind: u8) -> usize
 
 // The walk behind the record at a place. The record's part is listed if its table record is tagged, it has a byte, and the last token has ended.
 fn list_record(
-    table: &[u8],
+    table: &Rules,
     reading: &[u8],
     at: usize,
     listing: Listing,
@@ -60,17 +60,13 @@ fn list_record(
     ensures { Passed table.now (record_at reading.now at) writing out.old out.new listing result }
 {
     let number = reading::record_number(reading, at);
-    let tag = table::tag_at(table, number);
+    let tag = table.tag_at(number);
     let size = reading::record_length(reading, at) as usize;
     let kind = reading::record_kind(reading, at);
     let offset = listing.offset;
-    let end = listing.end;
-    let to = listing.to;
-    let next = offset + width_of(kind);
     let unlisted = Listing {
-        offset: next,
-        end,
-        to,
+        offset: offset + width_of(kind),
+        ..listing
     };
     if tag == 0 {
         return unlisted;
@@ -78,19 +74,18 @@ fn list_record(
     if size == 0 {
         return unlisted;
     }
-    if offset < end {
+    if offset < listing.end {
         return unlisted;
     }
-    let behind = put(out, to, tag, offset, size, writing);
     Listing {
-        offset: next,
         end: offset + size,
-        to: behind,
+        to: put(out, listing.to, tag, offset, size, writing),
+        ..unlisted
     }
 }
 
 // Lists the tokens of a reading, record by record, and returns the index behind them.
-fn list_records(table: &[u8], reading: &[u8], out: &mut [u8], writing: bool) -> usize
+fn list_records(table: &Rules, reading: &[u8], out: &mut [u8], writing: bool) -> usize
     requires { Listable table.now reading.now writing (length out.old) }
     ensures index { result ≡ length (token_bytes (list_reading table.now reading.now)) }
     ensures buffer { out.new
@@ -112,21 +107,16 @@ fn list_records(table: &[u8], reading: &[u8], out: &mut [u8], writing: bool) -> 
 
 // Tokens: writes the tokens of a fitting reading from the start record on, 3 bytes each, and returns their count. The first walk only
 // counts, so that a buffer that is too short is left as it was.
-pub fn tokens(table: &[u8], start: usize, reading: &[u8], out: &mut [u8]) -> Answer
+pub fn tokens(table: &[u8], start: usize, reading: &[u8], out: &mut [u8]) -> Result<usize, Refusal>
     ensures answer { says result ≡ tokens_says table.now start reading.now (length out.old) }
     ensures buffer { out.new ≡ tokens_leaves table.now start reading.now out.old }
 {
-    let admitted = reading::admit(table, start);
-    if let Answer::Refused(why) = admitted {
-        return Answer::Refused(why);
-    }
-    if let Whole::Misfit = reading::fit_whole(table, start, reading) {
-        return Answer::Refused(Refusal::Unfit(0));
-    }
-    let needed = list_records(table, reading, out, false);
+    let rules = reading::admit(table, start)?;
+    reading::fit_whole(&rules, start, reading).ok_or(Refusal::Unfit(0))?;
+    let needed = list_records(&rules, reading, out, false);
     if out.len() < needed {
-        return Answer::Refused(Refusal::Buffer(needed));
+        return Err(Refusal::Buffer(needed));
     }
-    let listed = list_records(table, reading, out, true);
-    Answer::Done(listed / 3)
+    let listed = list_records(&rules, reading, out, true);
+    Ok(listed / 3)
 }

@@ -14,8 +14,8 @@ fields : (t : List ℕ) (r : Record) {number tag size kind own : ℕ} → number
     → own ≡ width kind → Fields t r tag size own
 fields t r n e f k g = record { tagged = e ∙ ap (tag_at t) n; spells = f; moves = g ∙ ap width k }
 
-pub overflow_add-next : goal.overflow_add-next
-overflow_add-next c = omega (arith, width_small c.record_kind-kind.result, c.width_of.ensures)
+pub overflow_add-unlisted : goal.overflow_add-unlisted
+overflow_add-unlisted c = omega (arith, width_small c.record_kind-kind.result, c.width_of.ensures)
 
 pub returns-then-tag-eq0 : goal.returns-then-tag-eq0
 returns-then-tag-eq0 c =
@@ -29,14 +29,14 @@ returns-then-size-eq0 c =
     c.record_length-size.ensures.length c.record_kind-kind.ensures c.width_of.ensures in
     pass-empty f c.args.listing (omega arith)
 
-pub returns-then-offset-end : goal.returns-then-offset-end
-returns-then-offset-end c =
+pub returns-then-offset-listing : goal.returns-then-offset-listing
+returns-then-offset-listing c =
     let f = fields c.args.table.now (record_at c.args.reading.now c.args.at) c.record_number-number.ensures c.tag_at-tag.ensures
     c.record_length-size.ensures.length c.record_kind-kind.ensures c.width_of.ensures in
     pass-inside f c.args.listing (omega arith)
 
-pub put-behind-requires : goal.put-behind-requires
-put-behind-requires c =
+pub put-requires : goal.put-requires
+put-requires c =
     let f = fields c.args.table.now (record_at c.args.reading.now c.args.at) c.record_number-number.ensures c.tag_at-tag.ensures
     c.record_length-size.ensures.length c.record_kind-kind.ensures c.width_of.ensures in
     record {
@@ -53,5 +53,5 @@ pub returns : goal.returns
 returns c =
     let f = fields c.args.table.now (record_at c.args.reading.now c.args.at) c.record_number-number.ensures c.tag_at-tag.ensures
     c.record_length-size.ensures.length c.record_kind-kind.ensures c.width_of.ensures in
-    pass-token f c.args.listing (omega arith) (omega arith) (omega arith) (omega arith) (omega (arith, c.put-behind.ensures.index))
-    c.put-behind.ensures.buffer
+    pass-token f c.args.listing (omega arith) (omega arith) (omega arith) (omega arith) (omega (arith, c.put.ensures.index))
+    c.put.ensures.buffer
