@@ -15,14 +15,14 @@ use lib.Seq.{get_or-set_same, get_or-set_other}
 use borrow.Author.Tests.{eqb-true, eqb-false, ltb-true, ltb-false, leb-true}
 use Rattle.posix.specs.Expressions.{holds}
 use Rattle.posix.specs.Spells.{spells}
-use Rattle.table.specs.Records.{count, kind_at, a_at, b_at, is_letter}
+use Rattle.table.specs.Records.{count, kind_at, a_at, b_at}
 use Rattle.table.specs.Faults.{Passes}
 use Rattle.table.specs.Letters.{byte_set_at}
 use Rattle.table.specs.Expression.{exp_of}
-use Rattle.table.proofs.Passing.{or-true, and_both, letter-kinds}
+use Rattle.table.proofs.Passing.{or-true, and_both}
 use Rattle.marks.specs.Marks.{marked}
 use Rattle.marks.proofs.Laws.{marked-bit, bit-marked, unmarked-bit, bit_or_left, bit_or_right}
-use Rattle.edges.specs.Held.{MarkedFrom, MarkedIn, LettersMarked, Unmarked}
+use Rattle.edges.specs.Held.{MarkedFrom, LettersMarked, Unmarked}
 use Rattle.edges.proofs.Held.{byte-held}
 
 -- an index is below a bound or not
@@ -99,84 +99,28 @@ module _ (ws : List ℕ) (low high : ℕ) (size : length ws ≡ 4) (some : low <
           rw (same, here) (bit_or_left (get_or ws (low / 64) 0) run (j % 64) old)
       still j false e m = rw (get_or-set_other ws (low / 64) (j / 64) v 0 (eqb-false (j / 64) (low / 64) e)) m
 
--- no number is to be marked
-pub from-none : (low high : ℕ) (ws : List ℕ) → high ≤ low → MarkedFrom low high ws ws
-from-none low high ws n = record { size = refl; kept = λ j m. m; new = λ j l h. absurd (omega arith) }
+-- the bytes that a letter holds are marked
+module _ (t : List ℕ) (k : ℕ) where
+  byte-held-by : (c : ℕ) → holds (byte_set_at t k) c ≡ true → c < 256
+  byte-held-by c h = ltb-true c 256 (and_both (ltb c 256) _ h).0
 
-module _ (w low high : ℕ) (ws : List ℕ) where
-  pub in-none : (w ≤ low) ⊎ (high ≤ w) → MarkedIn w (64 * low + 64) (64 * high) ws ws
-  in-none o = record { size = refl; kept = λ j m. m; new = λ j l h e. absurd (go j l h e o) }
-    where
-      go : (j : ℕ) → 64 * low + 64 ≤ j → j < 64 * high → j / 64 ≡ w → (w ≤ low) ⊎ (high ≤ w) → ⊥
-      go j l h e (inl n) = omega arith
-      go j l h e (inr n) = omega arith
-
-  pub in-word : (ws' : List ℕ) → MarkedFrom (64 * w) (64 * w + 64) ws ws' → MarkedIn w (64 * low + 64) (64 * high) ws ws'
-  in-word ws' p = record { size = p.size; kept = p.kept; new = λ j l h e. p.new j (omega arith) (omega arith) }
-
--- a range over several words: the first, those between, and the last
-pub range-parts : (a b low high : ℕ) (v w x y z : List ℕ) → low ≡ a / 64 → high ≡ b / 64 → high ≤ 3
-    → MarkedFrom a (64 * low + 64) v w
-    → MarkedIn 1 (64 * low + 64) (64 * high) w x
-    → MarkedIn 2 (64 * low + 64) (64 * high) x y
-    → MarkedFrom (64 * high) (b + 1) y z
-    → MarkedFrom a (b + 1) v z
-range-parts a b low high v w x y z el eh top p q r s =
-    record {
-      size = s.size ∙ r.size ∙ q.size ∙ p.size;
-      kept = λ j m. s.kept j (r.kept j (q.kept j (p.kept j m)));
-      new = new;
-    }
-  where
-    new : (j : ℕ) → a ≤ j → j < b + 1 → marked z j ≡ true
-    new j l h =
-        ⊎_elim
-        (λ (e : j < 64 * low + 64). s.kept j (r.kept j (q.kept j (p.new j l e))))
-        (λ (e : 64 * low + 64 ≤ j).
-        ⊎_elim
-        (λ (f : j < 64 * high).
-        ⊎_elim
-        (λ (g : j / 64 < 2). s.kept j (r.kept j (q.new j e f (omega arith))))
-        (λ (g : 2 ≤ j / 64). s.kept j (r.new j e f (omega arith)))
-        (below_or (j / 64) 2))
-        (λ (f : 64 * high ≤ j). s.new j f h)
-        (below_or j (64 * high)))
-        (below_or j (64 * low + 64))
-
--- the bytes that a letter holds
-module _ (t : List ℕ) (k c : ℕ) where
-  byte-held-by : holds (byte_set_at t k) c ≡ true → c < 256
-  byte-held-by h = ltb-true c 256 (and_both (ltb c 256) _ h).0
-
-  range-holds : kind_at t k ≡ 2 → holds (byte_set_at t k) c ≡ true → (a_at t k ≤ c) × (c ≤ b_at t k)
-  range-holds e h =
+  range-holds : (c : ℕ) → kind_at t k ≡ 2 → holds (byte_set_at t k) c ≡ true → (a_at t k ≤ c) × (c ≤ b_at t k)
+  range-holds c e h =
       let g : (ltb c 256 && (leb (a_at t k) c && leb c (b_at t k))) ≡ true = rw e at h in
       let p = and_both (leb (a_at t k) c) (leb c (b_at t k)) (and_both (ltb c 256) _ g).1 in
       (leb-true _ _ p.0, leb-true _ _ p.1)
 
-  other-holds : kind_at t k ≡ 6 → holds (byte_set_at t k) c ≡ true → (c < a_at t k) ⊎ (b_at t k < c)
-  other-holds e h =
+  other-holds : (c : ℕ) → kind_at t k ≡ 6 → holds (byte_set_at t k) c ≡ true → (c < a_at t k) ⊎ (b_at t k < c)
+  other-holds c e h =
       let g : (ltb c 256 && (ltb c (a_at t k) || ltb (b_at t k) c)) ≡ true = rw e at h in
       ⊎_elim
       (λ (z : ltb c (a_at t k) ≡ true). inl (ltb-true _ _ z))
       (λ (z : ltb (b_at t k) c ≡ true). inr (ltb-true _ _ z))
       (or-true (ltb c (a_at t k)) (ltb (b_at t k) c) (and_both (ltb c 256) _ g).1)
 
--- the letters below k + 1, from those below k
-pub letters-none : (t ws : List ℕ) → length ws ≡ 4 → LettersMarked t 0 ws
-letters-none t ws e = record { size = e; right = λ i c l z h. absurd (omega arith) }
-
-module _
-    (t : List ℕ)
-    (k kind a b : ℕ)
-    (ek : kind ≡ kind_at t k)
-    (ea : a ≡ a_at t k)
-    (eb : b ≡ b_at t k)
-    (ws : List ℕ)
-    (p : LettersMarked t k ws)
-  where
+  module _ (a b : ℕ) (ea : a ≡ a_at t k) (eb : b ≡ b_at t k) (ws : List ℕ) (p : LettersMarked t k ws) where
     letters-more : (ws' : List ℕ) → length ws' ≡ length ws → ((j : ℕ) → marked ws j ≡ true → marked ws' j ≡ true)
-        → ((c : ℕ) → is_letter t k ≡ true → holds (byte_set_at t k) c ≡ true → marked ws' c ≡ true)
+        → ((c : ℕ) → holds (byte_set_at t k) c ≡ true → marked ws' c ≡ true)
         → LettersMarked t (k + 1) ws'
     letters-more ws' size kept new =
         record {
@@ -184,28 +128,23 @@ module _
           right = λ i c x z h.
               ⊎_elim
               (λ (y : i < k). kept c (p.right i c y z h))
-              (λ (y : k ≤ i). let same : i ≡ k = omega arith in new c (rw same at z) (rw same at h))
+              (λ (y : k ≤ i). let same : i ≡ k = omega arith in new c (rw same at h))
               (below_or i k);
         }
 
-    pub range-marked : kind ≡ 2 → (ws' : List ℕ) → MarkedFrom a (b + 1) ws ws' → LettersMarked t (k + 1) ws'
+    pub range-marked : kind_at t k ≡ 2 → (ws' : List ℕ) → MarkedFrom a (b + 1) ws ws' → LettersMarked t (k + 1) ws'
     range-marked e ws' q =
         letters-more ws' q.size q.kept
-        (λ c z h. let r = range-holds t k c (sym ek ∙ e) h in q.new c (omega arith) (omega arith))
+        (λ c h. let r = range-holds c e h in q.new c (omega arith) (omega arith))
 
-    pub other-marked : kind ≡ 6 → (ws' ws'' : List ℕ) → MarkedFrom 0 a ws ws' → MarkedFrom (b + 1) 256 ws' ws'' → LettersMarked t (k + 1) ws''
+    pub other-marked : kind_at t k ≡ 6 → (ws' ws'' : List ℕ) → MarkedFrom 0 a ws ws' → MarkedFrom (b + 1) 256 ws' ws'' → LettersMarked t (k + 1) ws''
     other-marked e ws' ws'' q r =
         letters-more ws'' (r.size ∙ q.size) (λ j m. r.kept j (q.kept j m))
-        (λ c z h.
+        (λ c h.
         ⊎_elim
         (λ (y : c < a_at t k). r.kept c (q.new c (omega arith) (omega arith)))
-        (λ (y : b_at t k < c). r.new c (omega arith) (byte-held-by t k c h))
-        (other-holds t k c (sym ek ∙ e) h))
-
-    pub none-marked : ¬ (kind ≡ 2) → ¬ (kind ≡ 6) → LettersMarked t (k + 1) ws
-    none-marked n2 n6 =
-        letters-more ws refl (λ j m. m)
-        (λ c z h. absurd (⊎_elim (λ (y : kind_at t k ≡ 2). n2 (ek ∙ y)) (λ (y : kind_at t k ≡ 6). n6 (ek ∙ y)) (letter-kinds t k z)))
+        (λ (y : b_at t k < c). r.new c (omega arith) (byte-held-by c h))
+        (other-holds c e h))
 
 -- a byte of the line whose bit is not set is not marked
 abbrev pub from_mark : List ℕ → ℕ → ℕ

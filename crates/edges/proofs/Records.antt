@@ -1,16 +1,15 @@
 -- The byte of a record from those of its children, one law for each kind; and the bytes of the records below the next one.
 -- Assumes nothing.
-use Prim.Native.Nat.{ℕ, suc, ◌+◌, ◌*◌, ◌≤◌, ◌<◌}
+use Prim.Native.Nat.{ℕ, suc, ◌+◌, ◌≤◌, ◌<◌}
 use native.Mathlib.Omega.{arith}
 use native.Mathlib.Nat.{eq-or-lt_of_le}
-use mathlib.Core.Path.{◌≡◌, refl, sym, ◌∙◌}
+use mathlib.Core.Path.{◌≡◌, sym, ◌∙◌}
 use mathlib.Core.Logic.{⊎_elim}
-use mathlib.Core.Bool.{Bool, true, false}
+use mathlib.Core.Bool.{true, false}
 use mathlib.Core.List.{List, []}
 use lib.Bits.{bit_or, bit_and}
-use lib.ListN.{length, get_or, set, replicate, length-set}
+use lib.ListN.{length, get_or, set, length-set}
 use lib.Seq.{get_or-set_same, get_or-set_other}
-use mir.Val.{bool_byte}
 use Rattle.posix.specs.Expressions.{holds}
 use Rattle.posix.specs.Spells.{spells}
 use Rattle.table.specs.Records.{kind_at, a_at, b_at, is_letter}
@@ -20,20 +19,6 @@ use Rattle.table.proofs.Laws.{exp-nothing, exp-empty, exp-letter, exp-or, exp-se
 use Rattle.edges.specs.Edges.{edge}
 use Rattle.edges.specs.Bits.{bits, bits_at, SeqBits, Found, Near}
 use Rattle.edges.proofs.Bits.{or-bits, star-bits, no_start, no_end}
-
--- a letter's byte by its two tests
-pub test-byte : (b : Bool) → bool_byte b ≤ 1
-test-byte true = omega arith
-test-byte false = omega arith
-
-pub bits-by : (h g x y : Bool) → h ≡ x → g ≡ y → bool_byte h + bool_byte g * 2 ≡ bits false x y
-bits-by h g x y e f = rw (e, f) (go x y)
-  where
-    go : (x y : Bool) → bool_byte x + bool_byte y * 2 ≡ bits false x y
-    go true true = refl
-    go true false = refl
-    go false true = refl
-    go false false = refl
 
 module _ (t : List ℕ) (first last k : ℕ) where
   pub nothing-bits : kind_at t k ≡ 0 → 0 ≡ bits_at t first last k
@@ -78,10 +63,6 @@ module _ (t : List ℕ) (first last k : ℕ) (found : List ℕ) (w : Found t fir
       seq-found z r h =
           rw (exp-seq t k z la lb)
           (h (spells (exp_of t (a_at t k)) []) (edge false (exp_of t (a_at t k)) first) (edge true (exp_of t (a_at t k)) last) (spells (exp_of t (b_at t k)) []) (edge false (exp_of t (b_at t k)) first) (edge true (exp_of t (b_at t k)) last) at_a at_b)
-
--- nothing is found at first
-pub found_none : (t : List ℕ) (first last : ℕ) → Found t first last 0 (replicate 256 0)
-found_none t first last = record { long = refl; right = λ i l. absurd (omega arith) }
 
 -- record j's byte is stored
 pub found-next :

@@ -1,29 +1,26 @@
 -- Laws of marks: bits of words, what a mark adds, which numbers a word of no bits or its trailing zeros pass, and copied words.
 -- Assumes nothing.
-use Prim.Native.Nat.{ℕ, zero, suc, ◌+◌, ◌-◌, ◌*◌, ◌/◌, ◌%◌, ◌^◌, ◌≤◌, ◌<◌, max}
-use native.Mathlib.Nat.{max-le, le-max_left, le-max_right, max-eq_left, max-eq_right, one-mul, div-eq_of_lt, div-one, zero-div, zero-lt-suc, le_of_suc-le-suc}
-use native.Mathlib.Numerals.{one-add}
+use Prim.Native.Nat.{ℕ, ◌+◌, ◌-◌, ◌*◌, ◌/◌, ◌%◌, ◌^◌, ◌≤◌, ◌<◌, min, max}
+use native.Mathlib.Nat.{le-max_left, le-max_right, max-eq_left, max-eq_right, div-one, div-le_self, zero-div}
 use native.Mathlib.Omega.{arith}
 use mathlib.Core.Path.{◌≡◌, refl, sym, ap, ◌∙◌, subst}
-use mathlib.Core.Logic.{◌⊎◌, inl, inr, ⊎_elim, ⊎_map}
+use mathlib.Core.Logic.{◌⊎◌, ◌≢◌, inl, inr, ⊎_elim, ⊎_map}
 use mathlib.Core.Bool.{Bool, true, false}
-use mathlib.Core.List.{List, [], ◌∷◌}
-use lib.Arith.{digits_mod, lt-one}
-use lib.Bits.{bit_or, or_step, or_shr}
-use lib.Count.{count_trailing_zeros, under, trailing_le}
-use lib.Dec.{eqb, ltb, lit<}
-use lib.ListN.{length, get_or, set, length-set}
-use lib.Pow.{pow-lt, pow-add, shl_exact, shl-shr, shr-shr, shr_lt}
+use mathlib.Core.List.{List}
+use lib.Bits.{bit_or}
+use lib.Count.{count_trailing_zeros, trailing_le}
+use lib.Dec.{eqb, ltb}
+use lib.ListN.{length, get_or, set, take, drop, length-set}
+use lib.Pow.{shr-shr, shr_lt}
 use lib.Seq.{get_or-set_same, get_or-set_other}
 use borrow.Author.Tests.{eq-eqb, ne_eqb, eqb-true, eqb-false, ltb-true, ltb-false}
+use Rattle.std.specs.List.{slice_range}
+use Rattle.std.proofs.Common.{w64}
+use Rattle.std.proofs.lemmas.Bool.{cases_lt}
+use Rattle.std.proofs.lemmas.Nat.{one_shl}
+use Rattle.std.proofs.lemmas.Nat.Bits.{bit_at_or, bit_at_above, bit_at-pow_same, bit_at-pow_other, bit_at-trailing_zeros}
+use Rattle.std.proofs.lemmas.List.{get_or-take, get_or-drop, get_or_past}
 use Rattle.marks.specs.Marks.{marked, MarkedAll, MarkedToo, FromWord, NextMarked, Copied}
-
-below_or : (x y : ℕ) → (x < y) ⊎ (y ≤ x)
-below_or x y = go (ltb x y) refl
-  where
-    go : (b : Bool) → ltb x y ≡ b → (x < y) ⊎ (y ≤ x)
-    go true h = inl (ltb-true x y h)
-    go false h = inr (ltb-false x y h)
 
 -- a mark is a bit that is 1
 pub bit_is : (ws : List ℕ) (i : ℕ) → eqb (get_or ws (i / 64) 0 / 2 ^ (i % 64) % 2) 1 ≡ marked ws i
@@ -42,16 +39,10 @@ pub unmarked-bit : (ws : List ℕ) (i : ℕ) → get_or ws (i / 64) 0 / 2 ^ (i %
 unfolding marked
 unmarked-bit ws i e = ne_eqb _ 1 (λ (q : get_or ws (i / 64) 0 / 2 ^ (i % 64) % 2 ≡ 1). omega arith)
 
--- there is no word behind the last
-no_word : (ws : List ℕ) (i : ℕ) → length ws ≤ i → get_or ws i 0 ≡ 0
-no_word [] i h = refl
-no_word (w ∷ ws) zero h = absurd (omega arith)
-no_word (w ∷ ws) (suc i) h = no_word ws i (le_of_suc-le-suc h)
-
 -- nothing is marked behind the last word
 pub marked-inside : (ws : List ℕ) (i : ℕ) → 64 * length ws ≤ i → ¬ (marked ws i ≡ true)
 marked-inside ws i l m =
-    let none : get_or ws (i / 64) 0 ≡ 0 = no_word ws (i / 64) (omega arith) in
+    let none : get_or ws (i / 64) 0 ≡ 0 = get_or_past ws (i / 64) 0 (omega arith) in
     let z : 0 / 2 ^ (i % 64) % 2 ≡ 1 = rw none at (bit-marked ws i m) in
     let e : ◌≡◌ {A = ℕ} 0 1 = sym (ap (λ (x : ℕ). x % 2) (zero-div (2 ^ (i % 64)))) ∙ z in
     omega arith
@@ -62,22 +53,11 @@ unfolding marked
 marked-alike us ws i j w b = rw (w, b)
 
 -- a bit of `|`
-max-lt : (a b : ℕ) → max (a % 2) (b % 2) < 2
-max-lt a b =
-    let h : max (a % 2) (b % 2) ≤ 1 = max-le (omega arith) (omega arith) in
-    omega arith
-
-pub bit-or : (a b k : ℕ) → bit_or a b / 2 ^ k % 2 ≡ max (a / 2 ^ k % 2) (b / 2 ^ k % 2)
-bit-or a b k =
-    let x = a / 2 ^ k in
-    let y = b / 2 ^ k in
-    ap (λ (n : ℕ). n % 2) (or_shr a b k ∙ or_step x y) ∙ digits_mod (bit_or (x / 2) (y / 2)) (max-lt x y)
-
 pub bit_or_left : (a b k : ℕ) → a / 2 ^ k % 2 ≡ 1 → bit_or a b / 2 ^ k % 2 ≡ 1
-bit_or_left a b k e = omega (arith, bit-or a b k, le-max_left (a / 2 ^ k % 2) (b / 2 ^ k % 2))
+bit_or_left a b k e = omega (arith, bit_at_or a b k, le-max_left (a / 2 ^ k % 2) (b / 2 ^ k % 2))
 
 pub bit_or_right : (a b k : ℕ) → b / 2 ^ k % 2 ≡ 1 → bit_or a b / 2 ^ k % 2 ≡ 1
-bit_or_right a b k e = omega (arith, bit-or a b k, le-max_right (a / 2 ^ k % 2) (b / 2 ^ k % 2))
+bit_or_right a b k e = omega (arith, bit_at_or a b k, le-max_right (a / 2 ^ k % 2) (b / 2 ^ k % 2))
 
 -- a bit of `|` is one of either
 max-one : (x y : ℕ) → max x y ≡ 1 → (x ≡ 1) ⊎ (y ≡ 1)
@@ -88,43 +68,21 @@ max-one x y e = go (ltb x y) refl
     go false h = inl (sym (max-eq_left (ltb-false x y h)) ∙ e)
 
 or-bit : (a b k : ℕ) → bit_or a b / 2 ^ k % 2 ≡ 1 → (a / 2 ^ k % 2 ≡ 1) ⊎ (b / 2 ^ k % 2 ≡ 1)
-or-bit a b k e = max-one (a / 2 ^ k % 2) (b / 2 ^ k % 2) (sym (bit-or a b k) ∙ e)
+or-bit a b k e = max-one (a / 2 ^ k % 2) (b / 2 ^ k % 2) (sym (bit_at_or a b k) ∙ e)
 
 -- 1 << k has no other bit
 one-bit-only : (k j : ℕ) → k < 64 → 1 * 2 ^ k % 2 ^ 64 / 2 ^ j % 2 ≡ 1 → j ≡ k
 one-bit-only k j h e =
+    let exact : 2 ^ k / 2 ^ j % 2 ≡ 1 = ap (λ (n : ℕ). n / 2 ^ j % 2) (sym (one_shl k 64 h)) ∙ e in
+    let other : j ≢ k → ⊥ = λ (n : j ≢ k). let none : 2 ^ k / 2 ^ j % 2 ≡ 0 = bit_at-pow_other k j n in omega arith in
     ⊎_elim
-    (λ (l : j < k). absurd (lower l))
-    (λ (l : k ≤ j). ⊎_elim (λ (m : k < j). absurd (higher m)) (λ (m : j ≤ k). omega arith) (below_or k j))
-    (below_or j k)
-  where
-    exact : 1 * 2 ^ k % 2 ^ 64 ≡ 1 * 2 ^ k
-    exact = shl_exact 1 k 64 (lit< tt) (omega arith)
-
-    bit : 1 * 2 ^ k / 2 ^ j % 2 ≡ 1
-    bit = ap (λ (n : ℕ). n / 2 ^ j % 2) (sym exact) ∙ e
-
-    lower : j < k → ⊥
-    lower l =
-        let sum : k ≡ 1 + (k - j - 1) + j = omega arith in
-        let power : 2 ^ k ≡ 2 ^ (1 + (k - j - 1)) * 2 ^ j = ap (λ (n : ℕ). 2 ^ n) sum ∙ pow-add 2 (1 + (k - j - 1)) j in
-        let twice : 2 ^ (1 + (k - j - 1)) ≡ 2 ^ 1 * 2 ^ (k - j - 1) = pow-add 2 1 (k - j - 1) in
-        let half : 1 * 2 ^ k / 2 ^ j ≡ 2 ^ (1 + (k - j - 1)) = ap (λ (n : ℕ). n / 2 ^ j) (one-mul (2 ^ k) ∙ power) ∙ shl-shr (2 ^ (1 + (k - j - 1))) j in
-        let even : 2 ^ (1 + (k - j - 1)) % 2 ≡ 1 = ap (λ (n : ℕ). n % 2) (sym half) ∙ bit in
-        let x : ℕ = 2 ^ (k - j - 1) in
-        let double : 2 ^ (1 + (k - j - 1)) ≡ 2 * x = twice in
-        let odd : (2 * x) % 2 ≡ 1 = ap (λ (n : ℕ). n % 2) (sym double) ∙ even in
-        omega arith
-
-    higher : k < j → ⊥
-    higher l =
-        let none : 1 * 2 ^ k / 2 ^ j ≡ 0 = ap (λ (n : ℕ). n / 2 ^ j) (one-mul (2 ^ k)) ∙ div-eq_of_lt (pow-lt l) in
-        let zeros : ◌≡◌ {A = ℕ} 0 1 = sym (ap (λ (n : ℕ). n % 2) none) ∙ bit in
-        omega arith
+    (λ (l : j < k). absurd (other (λ (q : j ≡ k). omega arith)))
+    (λ (l : k ≤ j). ⊎_elim (λ (m : k < j). absurd (other (λ (q : j ≡ k). omega arith))) (λ (m : j ≤ k). omega arith) (cases_lt k j))
+    (cases_lt j k)
 
 -- bit k of 1 << k
 one_bit : (k : ℕ) → k < 64 → 1 * 2 ^ k % 2 ^ 64 / 2 ^ k % 2 ≡ 1
-one_bit k h = ap (λ (n : ℕ). n / 2 ^ k % 2) (shl_exact 1 k 64 (lit< tt) (omega arith)) ∙ ap (λ (n : ℕ). n % 2) (shl-shr 1 k)
+one_bit k h = ap (λ (n : ℕ). n / 2 ^ k % 2) (one_shl k 64 h) ∙ bit_at-pow_same k
 
 -- what is marked too, by another test that is true of the same numbers
 pub marked-as : {P Q : ℕ → Type 0} {ws ws' : List ℕ} → ((j : ℕ) → P j → Q j) → ((j : ℕ) → Q j → P j) → MarkedAll P ws ws' → MarkedAll Q ws ws'
@@ -224,7 +182,7 @@ joined-more n at from to to' p l = marked-then split earlier here p (word-joined
         let bit : (j - 64 * at) % 64 ≡ j % 64 = omega (arith, f.0) in
         let set-bit : get_or from n 0 / 2 ^ (j % 64) % 2 ≡ 1 = rw (word, bit) at (bit-marked from (j - 64 * at) f.1) in
         inr (omega (arith, f.0), set-bit))
-        (below_or j (64 * (at + n)))
+        (cases_lt j (64 * (at + n)))
 
     earlier : (j : ℕ) → FromWord at from j × (j < 64 * (at + n)) → FromWord at from j × (j < 64 * (at + (n + 1)))
     earlier j (f, g) = (f, omega arith)
@@ -245,42 +203,29 @@ joined-all n at from to to' l p = marked-as (λ j q. q.0) within p
         ⊎_elim
         (λ (k : j < 64 * (at + n)). (q, k))
         (λ (k : 64 * (at + n) ≤ j). absurd (marked-inside from (j - 64 * at) (omega (arith, q.0)) q.1))
-        (below_or j (64 * (at + n)))
+        (cases_lt j (64 * (at + n)))
 
 -- the bits below the trailing zeros' end are 0
-below-under : (n d t i : ℕ) → n % 2 ≡ d → ((j : ℕ) → j < t → n / 2 / 2 ^ j % 2 ≡ 0) → i < under d t → n / 2 ^ i % 2 ≡ 0
-below-under n zero t zero e r h = ap (λ (x : ℕ). x % 2) (div-one n) ∙ e
-below-under n zero t (suc j) e r h =
-    ap (λ (x : ℕ). n / 2 ^ x % 2) (sym (one-add j)) ∙ ap (λ (x : ℕ). x % 2) (sym (shr-shr n 1 j)) ∙ r j (le_of_suc-le-suc h)
-below-under n (suc d) t i e r h = absurd (omega arith)
-
-pub below-trailing : (k n i : ℕ) → i < count_trailing_zeros k n → n / 2 ^ i % 2 ≡ 0
-unfolding count_trailing_zeros
-below-trailing zero n i h = absurd (omega arith)
-below-trailing (suc k) n i h = below-under n (n % 2) (count_trailing_zeros k (n / 2)) i refl (λ j l. below-trailing k (n / 2) j l) h
+below-trailing : (n i : ℕ) → n < 2 ^ 64 → (n ≡ 0 → ⊥) → i < count_trailing_zeros 64 n → n / 2 ^ i % 2 ≡ 0
+below-trailing n i b z h = (bit_at-trailing_zeros w64 n (omega arith) b).2 i h
 
 -- a word of m bits that is not 0 has fewer than m trailing zeros
-short-under : (n d t m : ℕ) → n < 2 ^ m → (n ≡ 0 → ⊥) → n % 2 ≡ d
-    → ((j : ℕ) → n / 2 < 2 ^ j → (n / 2 ≡ 0 → ⊥) → t < j) → under d t < m
-short-under n d t zero h z e r = absurd (z (lt-one h))
-short-under n zero t (suc m) h z e r =
-    let l : t < m = r m (shr_lt m 1 (subst (λ (x : ℕ). n < 2 ^ x) (omega arith) h)) (λ (q : n / 2 ≡ 0). z (omega arith)) in
-    omega arith
-short-under n (suc d) t (suc m) h z e r = zero-lt-suc m
-
-pub trailing-short : (k n m : ℕ) → n < 2 ^ m → (n ≡ 0 → ⊥) → count_trailing_zeros k n < m
-unfolding count_trailing_zeros
-trailing-short zero n zero h z = absurd (z (lt-one h))
-trailing-short zero n (suc m) h z = zero-lt-suc m
-trailing-short (suc k) n m h z =
-    short-under n (n % 2) (count_trailing_zeros k (n / 2)) m h z refl (λ j l q. trailing-short k (n / 2) j l q)
+trailing-short : (n m : ℕ) → n < 2 ^ m → n < 2 ^ 64 → (n ≡ 0 → ⊥) → count_trailing_zeros 64 n < m
+trailing-short n m h b z =
+    let one : n / 2 ^ count_trailing_zeros 64 n % 2 ≡ 1 = (bit_at-trailing_zeros w64 n (omega arith) b).1 in
+    ⊎_elim
+    (λ (l : count_trailing_zeros 64 n < m). l)
+    (λ (l : m ≤ count_trailing_zeros 64 n).
+    let none : n / 2 ^ count_trailing_zeros 64 n % 2 ≡ 0 = bit_at_above n m (count_trailing_zeros 64 n) h l in
+    absurd (omega arith))
+    (cases_lt (count_trailing_zeros 64 n) m)
 
 -- no number from a on below b is marked
 abbrev pub Passed : List ℕ → ℕ → ℕ → Type 0
 Passed ws a b = (j : ℕ) → a ≤ j → j < b → marked ws j ≡ false
 
 pub passed_on : (ws : List ℕ) (a b c : ℕ) → Passed ws a b → Passed ws b c → Passed ws a c
-passed_on ws a b c p q j l h = ⊎_elim (λ (k : j < b). p j l k) (λ (k : b ≤ j). q j k h) (below_or j b)
+passed_on ws a b c p q j l h = ⊎_elim (λ (k : j < b). p j l k) (λ (k : b ≤ j). q j k h) (cases_lt j b)
 
 -- the n bits of word q from bit s on are 0
 pub bits-passed : (ws : List ℕ) (q s n : ℕ) → s + n ≤ 64 → ((d : ℕ) → d < n → get_or ws q 0 / 2 ^ s / 2 ^ d % 2 ≡ 0)
@@ -305,10 +250,11 @@ pub lowest-passed : (ws : List ℕ) (from : ℕ) → get_or ws (from / 64) 0 < 2
 lowest-passed ws from b n =
     let word : ℕ = get_or ws (from / 64) 0 / 2 ^ (from % 64) in
     let sum : 64 ≡ 64 - from % 64 + from % 64 = omega arith in
+    let small : word < 2 ^ 64 = omega (arith, div-le_self (get_or ws (from / 64) 0) (2 ^ (from % 64))) in
     let few : count_trailing_zeros 64 word < 64 - from % 64 =
-    trailing-short 64 word (64 - from % 64) (shr_lt (64 - from % 64) (from % 64) (subst (λ (x : ℕ). get_or ws (from / 64) 0 < 2 ^ x) sum b)) n in
+    trailing-short word (64 - from % 64) (shr_lt (64 - from % 64) (from % 64) (subst (λ (x : ℕ). get_or ws (from / 64) 0 < 2 ^ x) sum b)) small n in
     let p : Passed ws (64 * (from / 64) + from % 64) (64 * (from / 64) + from % 64 + count_trailing_zeros 64 word) =
-    bits-passed ws (from / 64) (from % 64) (count_trailing_zeros 64 word) (omega arith) (λ d l. below-trailing 64 word d l) in
+    bits-passed ws (from / 64) (from % 64) (count_trailing_zeros 64 word) (omega arith) (λ d l. below-trailing word d small n l) in
     λ j l h. p j (omega arith) (omega arith)
 
 -- a whole word
@@ -319,50 +265,31 @@ word-passed ws q e =
     (λ d l. rw e (ap (λ (x : ℕ). x / 2 ^ d % 2) (zero-div (2 ^ 0)) ∙ ap (λ (x : ℕ). x % 2) (zero-div (2 ^ d)))) in
     λ j l h. p j (omega arith) (omega arith)
 
-pub word-lowest : (ws : List ℕ) (q : ℕ) → Passed ws (64 * q) (64 * q + count_trailing_zeros 64 (get_or ws q 0))
-word-lowest ws q =
+pub word-lowest : (ws : List ℕ) (q : ℕ) → get_or ws q 0 < 2 ^ 64 → (get_or ws q 0 ≡ 0 → ⊥) → Passed ws (64 * q) (64 * q + count_trailing_zeros 64 (get_or ws q 0))
+word-lowest ws q b z =
     let n : ℕ = count_trailing_zeros 64 (get_or ws q 0) in
     let p : Passed ws (64 * q + 0) (64 * q + 0 + n) =
     bits-passed ws q 0 n (omega (arith, trailing_le 64 (get_or ws q 0)))
-    (λ d l. ap (λ (x : ℕ). x / 2 ^ d % 2) (div-one (get_or ws q 0)) ∙ below-trailing 64 (get_or ws q 0) d l) in
+    (λ d l. ap (λ (x : ℕ). x / 2 ^ d % 2) (div-one (get_or ws q 0)) ∙ below-trailing (get_or ws q 0) d b z l) in
     λ j l h. p j (omega arith) (omega arith)
 
 -- the lesser of a place that nothing marked stands before, and `end`
-pub next-lesser : (ws : List ℕ) (from end a r : ℕ) → from ≤ a → from ≤ end → Passed ws from a → r ≡ a - (a - end) → NextMarked ws from end r
+pub next-lesser : (ws : List ℕ) (from end a r : ℕ) → from ≤ a → from ≤ end → Passed ws from a → r ≡ min end a → NextMarked ws from end r
 next-lesser ws from end a r l h p e =
     record { not_before = omega arith; not_behind = omega arith; passed = λ j x y. p j x (omega arith) }
 
--- `end`, where nothing marked stands before it
-pub next-end : (ws : List ℕ) (from end a : ℕ) → end ≤ a → from ≤ end → Passed ws from a → NextMarked ws from end end
-next-end ws from end a l h p = record { not_before = h; not_behind = omega arith; passed = λ j x y. p j x (omega arith) }
-
--- words up to n are copied
-pub record CopiedTo (n at : ℕ) (from to to' : List ℕ) : Type 0 where
-  pub size : length to' ≡ length to
-  pub same : (i : ℕ) → i < n → get_or to' i 0 ≡ get_or from (at + i) 0
-
-pub copied_none : (at : ℕ) (from to : List ℕ) → CopiedTo 0 at from to to
-copied_none at from to = record { size = refl; same = λ i h. absurd (omega arith) }
-
-pub copied_more : (n at : ℕ) (from to to' : List ℕ) → CopiedTo n at from to to' → n < length to
-    → CopiedTo (n + 1) at from to (set to' n (get_or from (at + n) 0))
-copied_more n at from to to' p l =
+-- words that are those of `from` from word `at` on
+pub copied :
+    (at : ℕ) (from to to' : List ℕ) → length to' ≡ length to → to' ≡ slice_range from at (at + length to)
+    → Copied at from to to'
+copied at from to to' l e =
     record {
-      size = length-set to' n (get_or from (at + n) 0) ∙ p.size;
-      same = λ i h.
-          ⊎_elim
-          (λ (k : i < n). get_or-set_other to' n i (get_or from (at + n) 0) 0 (λ q. omega arith) ∙ p.same i k)
-          (λ (k : n ≤ i).
-          let same : i ≡ n = omega arith in
-          rw same (get_or-set_same to' n (get_or from (at + n) 0) 0 (omega (arith, p.size))))
-          (below_or i n);
-    }
-
-pub copied_all : (n at : ℕ) (from to to' : List ℕ) → length to ≤ n → CopiedTo n at from to to' → Copied at from to to'
-copied_all n at from to to' l p =
-    record {
-      size = p.size;
+      size = l;
       same = λ i h.
           let word : (64 * at + i) / 64 ≡ at + i / 64 = omega arith in
-          marked-alike to' from i (64 * at + i) (rw word (p.same (i / 64) (omega arith))) (omega arith);
+          let inside : get_or (take (at + length to - at) (drop at from)) (i / 64) 0 ≡ get_or (drop at from) (i / 64) 0 =
+          get_or-take (at + length to - at) (drop at from) (i / 64) 0 (omega arith) in
+          let there : get_or to' (i / 64) 0 ≡ get_or from (at + i / 64) 0 =
+          ap (λ (ws : List ℕ). get_or ws (i / 64) 0) e ∙ inside ∙ get_or-drop at from (i / 64) 0 in
+          marked-alike to' from i (64 * at + i) (rw word there) (omega arith);
     }

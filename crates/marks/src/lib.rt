@@ -17,7 +17,7 @@ pub fn mark(words: &mut [u64], i: usize)
     requires { i < 64 * length words.old }
     ensures { MarkedToo i words.old words.new }
 {
-    words[i / 64] = words[i / 64] | (1 << (i % 64));
+    words[i / 64] |= 1 << (i % 64);
 }
 
 // The next number from `from` on that may be marked, or `end`: none before it is.
@@ -30,29 +30,16 @@ pub fn next_marked(words: &[u64], from: usize, end: usize) -> usize
     if from == end {
         return end;
     }
-    let mut i = from / 64;
-    let word = words[i] >> (from % 64);
+    let word = words[from / 64] >> (from % 64);
     if word != 0 {
-        return lesser(from + u64::trailing_zeros(word) as usize, end);
+        return end.min(from + word.trailing_zeros() as usize);
     }
-    i += 1;
-    while 64 * i < end {
+    for i in from / 64 + 1..end.div_ceil(64) {
         if words[i] != 0 {
-            return lesser(64 * i + u64::trailing_zeros(words[i]) as usize, end);
+            return end.min(64 * i + words[i].trailing_zeros() as usize);
         }
-        i += 1;
     }
     end
-}
-
-// The lesser of two numbers.
-fn lesser(a: usize, b: usize) -> usize
-    ensures { result ≡ a - (a - b) }
-{
-    if b < a {
-        return b;
-    }
-    a
 }
 
 // Copies words of `from`, from word `at` on, over all of `to`.
@@ -60,11 +47,7 @@ pub fn copy_marks(to: &mut [u64], from: &[u64], at: usize)
     requires { at + length to.old ≤ length from.now }
     ensures { Copied at from.now to.old to.new }
 {
-    let mut i = 0;
-    while i < to.len() {
-        to[i] = from[at + i];
-        i += 1;
-    }
+    to.copy_from_slice(&from[at..at + to.len()]);
 }
 
 // Marks the numbers of `from` in `to`, counted on from word `at`.
@@ -72,9 +55,7 @@ pub fn join_marks(to: &mut [u64], at: usize, from: &[u64])
     requires { at + length from.now ≤ length to.old }
     ensures { MarkedAll (FromWord at from.now) to.old to.new }
 {
-    let mut i = 0;
-    while i < from.len() {
-        to[at + i] = to[at + i] | from[i];
-        i += 1;
+    for (i, word) in from.iter().enumerate() {
+        to[at + i] |= *word;
     }
 }

@@ -3,5 +3,4 @@ use Rattle.edges.proofs.Marks.{run-marked}
 use Rattle.edges.proofs.mark_in_word.Goals as goal
 
 pub returns : goal.returns
-returns c =
-    run-marked c.args.words.now c.args.low c.args.high c.requires.words_len c.requires.low_lt_high c.requires.high_bound c.requires.high_bound_2
+returns c = run-marked c.args.words.now c.args.low c.args.high c.told-words c.requires.some c.requires.one_word c.requires.bytes

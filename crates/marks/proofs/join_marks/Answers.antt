@@ -5,10 +5,10 @@ use Rattle.marks.proofs.Laws.{joined-none, joined-more, joined-all}
 use Rattle.marks.proofs.join_marks.Goals as goal
 
 pub loop-i-init : goal.loop-i-init
-loop-i-init c = (omega arith, joined-none _ _ _)
+loop-i-init c = joined-none _ _ _
 
 pub loop-i-preserved : goal.loop-i-preserved
-loop-i-preserved c = (omega arith, joined-more _ _ _ _ _ c.loop-i.invariant.1 (omega (arith, c.loop-i.invariant.1.size)))
+loop-i-preserved c = joined-more _ _ _ _ _ c.loop-i.invariant (omega arith)
 
 pub returns : goal.returns
-returns c = joined-all _ _ _ _ _ (omega arith) c.loop-i.invariant.1
+returns c = joined-all _ _ _ _ _ (omega arith) c.loop-i.invariant
