@@ -14,21 +14,20 @@ use Rattle.rows.proofs.Cuts.{same_truth, some-found, some_holds, cut-true, cut_h
 use Rattle.rows.proofs.Bytes.{set-byte}
 use Rattle.rows.proofs.Growing.{run-true, has-run, grown-same}
 use Rattle.rows.proofs.Joining.{grown-none}
-use Rattle.rows.proofs.Reaching.{positive}
 
 -- the run that record k's row is: `high` is its longest length and `low` its lowest
 module _ (m d k : ℕ) (w : List ℕ) (g : Growing m d k w) (low high : ℕ) (eh : high ≡ longest_at w m d k) (el : low ≡ lowest_at w m d k)
-    (n : ¬ (low ≡ 0)) where
+    (n : 1 ≤ low) where
   pub run-bounds : (1 ≤ low) × (high ≤ d) × (1 ≤ high → low ≤ high)
   run-bounds = (
-    positive low n,
+    n,
     omega (arith, g.shape.small),
     λ l.
         let o : lowest_at w m d k ≤ longest_at w m d k = g.shape.ordered (omega arith) in omega arith,
   )
 
   has-it : (e : ℕ) → has m w k d e ≡ in_run low high e
-  has-it e = rw (el, eh) (has-run w m d k e (set-byte (lowest_at w m d k) (λ z. n (el ∙ z))))
+  has-it e = rw (el, eh) (has-run w m d k e (set-byte (lowest_at w m d k) (λ (z : lowest_at w m d k ≡ 0). omega arith)))
 
   -- what cuts from c on make of it, where record f's row has every length from c up to `end`
   module _ (f s c end low' high' next : ℕ) (r : Reached m w d s c end low high low' high' next)

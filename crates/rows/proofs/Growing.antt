@@ -1,6 +1,6 @@
 -- Laws of one row: what it tells as a run and as marks, and what the functions that let it grow leave.
 -- Assumes nothing.
-use Prim.Native.Nat.{ℕ, zero, suc, ◌+◌, ◌-◌, ◌≤◌, ◌<◌}
+use Prim.Native.Nat.{ℕ, zero, suc, ◌+◌, ◌-◌, ◌≤◌, ◌<◌, min, max}
 use native.Mathlib.Nat.{eq-or-lt_of_le}
 use native.Mathlib.Omega.{arith}
 use mathlib.Core.Path.{◌≡◌, refl, sym, ap, ◌∙◌}
@@ -11,9 +11,12 @@ use lib.Dec.{leb, eqb}
 use lib.ListN.{length, get_or, set, length-set}
 use lib.Seq.{get_or-set_same, get_or-set_other}
 use borrow.Author.Tests.{eq-eqb, ne_eqb, eqb-true, leb-true, le-leb, lt-leb}
+use Rattle.std.specs.Prelude.{Option, Some, None}
+use Rattle.std.specs.Option.{is_some, option_eq}
+use Rattle.std.proofs.lemmas.Option.{MatchOption-at_none, MatchOption-at_some}
 use Rattle.posix.proofs.Spells.{either, each, or-second}
 use Rattle.rows.specs.Layout.{head_at, row_at, is_set, longest_at, lowest_at, mark_at, in_row, has, tells}
-use Rattle.rows.specs.Rows.{Written, joined, Inside, Own, Shaped, Growing, Grown, Explicit, Marked, mark_set, in_run, behind_non_empty, Earlier}
+use Rattle.rows.specs.Rows.{Written, joined, RunFrom, RunTold, Inside, Own, Shaped, Growing, Grown, Explicit, Marked, mark_set, in_run, behind_non_empty, Earlier}
 use Rattle.rows.specs.Rows.{open_has, Open, WrittenOut}
 use Rattle.rows.proofs.Cuts.{same_truth, never_true, below_or}
 use Rattle.rows.proofs.Bytes.{set-byte, clear-byte}
@@ -158,8 +161,45 @@ module _ (w : List ℕ) (m d k at x : ℕ) (b : x < 256) (e : x ≡ get_or w at 
   unfolding longest_at
   longest-read p = ((rw (← p) e), b)
 
-  pub lowest-read : at ≡ row_at m d k → 1 < longest_at w m d k → (x ≡ lowest_at w m d k) × (x < 256)
-  lowest-read p l = (rw (lowest-byte w m d k l, ← p) e, b)
+  lowest-read : at ≡ row_at m d k → 1 < longest_at w m d k → x ≡ lowest_at w m d k
+  lowest-read p l = rw (lowest-byte w m d k l, ← p) e
+
+  pub lowest-none : at ≡ row_at m d k → 1 < longest_at w m d k → x ≡ 0 → lowest_at w m d k ≡ 0
+  lowest-none p l z = sym (lowest-read p l) ∙ z
+
+  pub lowest-some : at ≡ row_at m d k → 1 < longest_at w m d k → ¬ (x ≡ 0) → RunFrom w m d k x
+  lowest-some p l n = record { lowest = lowest-read p l; positive = omega arith; byte = b }
+
+-- What the lowest length of a row's run says, where it is looked at as an option.
+
+module _ (w : List ℕ) (m d k : ℕ) (low : Option ℕ) (told : RunTold w m d k low) where
+  pub told-none : low ≡ None → lowest_at w m d k ≡ 0
+  told-none e = MatchOption-at_none (lowest_at w m d k ≡ 0) (RunFrom w m d k) e told
+
+  pub told-some : (x : ℕ) → low ≡ Some x → RunFrom w m d k x
+  told-some x e = MatchOption-at_some (lowest_at w m d k ≡ 0) (RunFrom w m d k) x e told
+
+  -- it stays where the row's lowest length does
+  pub told-kept : (w' : List ℕ) → lowest_at w' m d k ≡ lowest_at w m d k → RunTold w' m d k low
+  told-kept w' e = go low told
+    where
+      go : (o : Option ℕ) → RunTold w m d k o → RunTold w' m d k o
+      go None z = e ∙ z
+      go (Some x) r = record { lowest = r.lowest ∙ sym e; positive = r.positive; byte = r.byte }
+
+  pub told-no_run : false ≡ is_some low → lowest_at w m d k ≡ 0
+  told-no_run e = told-none (none low (sym e))
+    where
+      none : (o : Option ℕ) → is_some o ≡ false → o ≡ None
+      none None h = refl
+      none (Some x) h = absurd (true≢false h)
+
+  pub told-same : (x : ℕ) → true ≡ option_eq eqb low (Some x) → RunFrom w m d k x
+  told-same x e = told-some x (same low (sym e))
+    where
+      same : (o : Option ℕ) → option_eq eqb o (Some x) ≡ true → o ≡ Some x
+      same None h = absurd (true≢false (sym h))
+      same (Some y) h = ap Some (eqb-true y x h)
 
 -- What `tell` returns.
 
@@ -176,34 +216,34 @@ module _ (w : List ℕ) (m k d e : ℕ) where
       go zero h = absurd (omega arith)
       go (suc x) h = refl
 
-  module _ (h low : ℕ) (one : ¬ (e ≡ 0)) (eh : h ≡ longest_at w m d k) where
+  module _ (h : ℕ) (one : ¬ (e ≡ 0)) (eh : h ≡ longest_at w m d k) where
     pub told-above : h < e → false ≡ tells m w k d e
     told-above l = sym (tells-has (omega arith) ∙ has_above w m d k e (omega arith))
 
-    pub told-run : low ≡ lowest_at w m d k → ¬ (low ≡ 0) → e ≤ h → leb low e ≡ tells m w k d e
-    told-run el n l =
-        let s : is_set (lowest_at w m d k) ≡ true = set-byte (lowest_at w m d k) (λ z. n (el ∙ z)) in
+    pub told-run : (low : ℕ) → low ≡ lowest_at w m d k → 1 ≤ low → e ≤ h → leb low e ≡ tells m w k d e
+    told-run low el n l =
+        let s : is_set (lowest_at w m d k) ≡ true = set-byte (lowest_at w m d k) (λ (z : lowest_at w m d k ≡ 0). omega arith) in
         let t : leb e (longest_at w m d k) ≡ true = le-leb e (longest_at w m d k) (omega arith) in
         rw el (sym (tells-has (omega arith) ∙ has-run w m d k e s ∙ and-turned (leb (lowest_at w m d k) e) (leb e (longest_at w m d k)) ∙ rw t))
 
-    pub told-whole : low ≡ lowest_at w m d k → low ≡ 0 → e ≤ h → e ≡ d → true ≡ tells m w k d e
-    told-whole el z l q =
-        let s : is_set (lowest_at w m d k) ≡ false = clear-byte (lowest_at w m d k) (sym el ∙ z) in
+    pub told-whole : lowest_at w m d k ≡ 0 → e ≤ h → e ≡ d → true ≡ tells m w k d e
+    told-whole z l q =
+        let s : is_set (lowest_at w m d k) ≡ false = clear-byte (lowest_at w m d k) z in
         let t : leb d (longest_at w m d k) ≡ true = le-leb d (longest_at w m d k) (omega arith) in
         sym (tells-has (omega arith) ∙ (rw q (has-whole w m d k s)) ∙ t)
 
-    pub told-mark : (at : ℕ) → at ≡ row_at m d k → low ≡ lowest_at w m d k → low ≡ 0 → e ≤ h → e < d
+    pub told-mark : (at : ℕ) → at ≡ row_at m d k → lowest_at w m d k ≡ 0 → e ≤ h → e < d
         → not (eqb (get_or w (at + e) 0) 0) ≡ tells m w k d e
     unfolding is_set mark_at
-    told-mark at ea el z l b =
-        let s : is_set (lowest_at w m d k) ≡ false = clear-byte (lowest_at w m d k) (sym el ∙ z) in
+    told-mark at ea z l b =
+        let s : is_set (lowest_at w m d k) ≡ false = clear-byte (lowest_at w m d k) z in
         rw ea (sym (tells-has (omega arith) ∙ has-mark w m d k e s b (omega arith)))
 
 -- Marks.
 
 module _ (m d k low high : ℕ) (w : List ℕ) (below : 1 ≤ low) where
   -- ones from `low` up to `high`, or to the end of the row
-  pub marked-put : (at end : ℕ) (w' : List ℕ) → at ≡ row_at m d k + low → end ≡ (high + 1) - ((high + 1) - d) → low < end
+  pub marked-put : (at end : ℕ) (w' : List ℕ) → at ≡ row_at m d k + low → end ≡ min (high + 1) d → low < end
       → Written (λ i. is_set 1) at (end - low) w w'
       → Marked m d k (λ e. mark_set m w k d e || in_run low high e) w w'
   unfolding mark_at
@@ -233,7 +273,7 @@ module _ (m d k low high : ℕ) (w : List ℕ) (below : 1 ≤ low) where
       }
 
   -- none where they end before `low`
-  pub marked-none : (end : ℕ) → end ≡ (high + 1) - ((high + 1) - d) → end ≤ low
+  pub marked-none : (end : ℕ) → end ≡ min (high + 1) d → end ≤ low
       → Marked m d k (λ e. mark_set m w k d e || in_run low high e) w w
   marked-none end ee l =
       record {
@@ -349,12 +389,12 @@ module _ {m d k : ℕ} {w : List ℕ} (g : Growing m d k w) where
       let o : WrittenOut m d k (longest_at w m d k) w = record { long = refl; no_run = z } in
       explicit-same (open-explicit m w k d (longest_at w m d k) (written-open o g)) (λ e x y. written_has o e)
 
-  pub without-some : (low h : ℕ) {w' : List ℕ} → low ≡ lowest_at w m d k → h ≡ longest_at w m d k → ¬ (low ≡ 0)
+  pub without-some : (low h : ℕ) {w' : List ℕ} → low ≡ lowest_at w m d k → h ≡ longest_at w m d k → 1 ≤ low
       → Explicit m d k (in_run low h) w w'
       → Explicit m d k (has m w k d) w w'
   without-some low h el eh n p =
       explicit-same p
-      (λ e x y. rw (el, eh) (sym (has-run w m d k e (set-byte (lowest_at w m d k) (λ z. n (el ∙ z))))))
+      (λ e x y. rw (el, eh) (sym (has-run w m d k e (set-byte (lowest_at w m d k) (λ (z : lowest_at w m d k ≡ 0). omega arith)))))
 
 -- A row that is written out and whose header is raised.
 
@@ -374,7 +414,7 @@ explicit-kept {m} {d} {k} p i n =
 raised : {m d k h : ℕ} (g : ℕ → Bool) {w v : List ℕ} → Open m d k h w → Explicit m d k (λ e. open_has m w k d h e || g e) w v
     → (at x top : ℕ)
     → at ≡ head_at m d k
-    → top ≡ h + (x - h)
+    → top ≡ max h x
     → 2 ≤ top
     → x ≤ d
     → ((e : ℕ) → x < e → e ≤ d → g e ≡ false)
@@ -434,7 +474,7 @@ pub marks-added : {m d k h : ℕ} {w v : List ℕ} → Open m d k h w → (low h
     → (1 ≤ low) × (low ≤ high) × (high ≤ d)
     → (2 ≤ high) ⊎ (2 ≤ h)
     → at ≡ head_at m d k
-    → top ≡ h + (high - h)
+    → top ≡ max h high
     → (Grown m d k (λ e. open_has m w k d h e || in_run low high e) w (set v at top)) × (WrittenOut m d k top (set v at top))
 marks-added {m} {d} {k} {h} {w} o low high at top q b two ea et =
     raised (in_run low high) o (explicit-marked (in_run low high) (open-explicit m w k d h o) q) at high top ea et
@@ -489,19 +529,19 @@ module _ {m d k : ℕ} {w : List ℕ} (h low high : ℕ) (eh : h ≡ longest_at 
       (λ e x y. let n : has m w k d e ≡ false = has_above w m d k e (omega arith) in rw n)
 
   -- of a run that the new lengths touch
-  pub run-joined : {w' : List ℕ} (l bottom top : ℕ) → l ≡ lowest_at w m d k → ¬ (l ≡ 0) → low ≤ h + 1 → l ≤ high + 1
+  pub run-joined : {w' : List ℕ} (l bottom top : ℕ) → l ≡ lowest_at w m d k → 1 ≤ l → low ≤ h + 1 → l ≤ high + 1
       → Shaped m d k w
       → ¬ (h ≡ 0)
       → low ≤ high
-      → bottom ≡ l - (l - low)
-      → top ≡ h + (high - h)
+      → bottom ≡ min l low
+      → top ≡ max h high
       → Grown m d k (in_run bottom top) w w'
       → Grown m d k (λ e. has m w k d e || in_run low high e) w w'
   run-joined l bottom top el n x y shape some order eb et p =
       let turned : l ≤ h = rw (el, eh) (shape.ordered (omega arith)) in
       grown-same p
       (λ e a b.
-      let run : has m w k d e ≡ in_run l h e = rw (el, eh) (has-run w m d k e (set-byte (lowest_at w m d k) (λ z. n (el ∙ z)))) in
+      let run : has m w k d e ≡ in_run l h e = rw (el, eh) (has-run w m d k e (set-byte (lowest_at w m d k) (λ (z : lowest_at w m d k ≡ 0). omega arith))) in
       rw run
       (same_truth (in_run bottom top e) (in_run l h e || in_run low high e)
       (λ t.
@@ -591,7 +631,7 @@ module _ {m d k s p h : ℕ} {w : List ℕ} (o : Open m d k h w) (r : Earlier m 
       → from ≡ row_at m p s + 1
       → Written (joined w to from) to (p - 1) w v
       → at ≡ head_at m d k
-      → top ≡ h + ((d - p + high) - h)
+      → top ≡ max h (d - p + high)
       → (Grown m d k (λ e. open_has m w k d h e || behind_non_empty m w s d p e) w (set v at top)) × (WrittenOut m d k top (set v at top))
   marks-joined high to from at top eh et ef z ea etop =
       let within : p ≤ d = r.within in

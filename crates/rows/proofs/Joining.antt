@@ -1,6 +1,6 @@
 -- Laws of rows that are joined: what a row tells by its header and its lowest length, rows shifted behind some bytes, and cuts joined one by one.
 -- Assumes nothing.
-use Prim.Native.Nat.{ℕ, ◌+◌, ◌-◌, ◌≤◌, ◌<◌}
+use Prim.Native.Nat.{ℕ, ◌+◌, ◌-◌, ◌≤◌, ◌<◌, min, max}
 use native.Mathlib.Nat.{eq-or-lt_of_le}
 use native.Mathlib.Omega.{arith}
 use mathlib.Core.Path.{◌≡◌, refl, sym, ap, ◌∙◌}
@@ -10,13 +10,16 @@ use mathlib.Core.List.{List}
 use lib.Dec.{leb}
 use lib.ListN.{get_or}
 use borrow.Author.Tests.{leb-true, le-leb, lt-leb}
+use Rattle.std.specs.Prelude.{Option, Some, None}
+use Rattle.std.specs.Option.{unwrap_or}
+use Rattle.std.proofs.lemmas.Option.{MatchOption-at_none, MatchOption-at_some}
 use Rattle.posix.proofs.Spells.{either, each, or-second}
 use Rattle.rows.specs.Layout.{row_at, is_set, longest_at, lowest_at, mark_at, has, tells}
 use Rattle.rows.specs.Cuts.{some, cut_at}
 use Rattle.rows.specs.Rows.{row_set, NextSet, Inside, Shaped, Growing, Grown, in_run, behind, behind_non_empty, Earlier, second, cuts_joined}
-use Rattle.rows.specs.Rows.{NextLength, Cutting, Skipped, Covered, Tail}
+use Rattle.rows.specs.Rows.{NextLength, OfLength, Cutting, Skipped, Covered, Tail}
 use Rattle.rows.proofs.Cuts.{same_truth, below_or, some-found, some_holds, some-skip}
-use Rattle.rows.proofs.Cuts.{cut-true, cut_holds, cut_low, cut-past}
+use Rattle.rows.proofs.Cuts.{cut-true, cut_holds, cut_low}
 use Rattle.rows.proofs.Bytes.{set-byte, clear-byte}
 use Rattle.rows.proofs.Places.{size-grows, first_head}
 use Rattle.rows.proofs.Growing.{lowest-one, run_in, run-true, run-low, run-high, has_above, has-run, has-whole, has-mark, tells-has, grown-same}
@@ -204,17 +207,14 @@ module _ (m d k s p : ℕ) (w w' : List ℕ) where
       (λ e a b. behind-empty m w s d p z (tells-empty m p s w ∙ set-byte (get_or w s 0) x) e b) q
 
   module _ (h low : ℕ) (long : h ≡ longest_at w m p s) (lower : low ≡ lowest_at w m p s) where
-    pub add-run-rest : ¬ (low ≡ 0) → Grown m d k (λ e. has m w k d e || in_run (d - p + low) (d - p + h) e) w w'
+    pub add-run-rest : 1 ≤ low → Grown m d k (λ e. has m w k d e || in_run (d - p + low) (d - p + h) e) w w'
         → Grown m d k (λ e. has m w k d e || behind_non_empty m w s d p e) w w'
     add-run-rest n q =
         add_same (in_run (d - p + low) (d - p + h)) (behind_non_empty m w s d p)
         (λ e a b.
         rw (long, lower)
-        (rest-run m w s d p (set-byte (lowest_at w m p s) (λ (z : lowest_at w m p s ≡ 0). n (omega arith))) (positive n) e))
+        (rest-run m w s d p (set-byte (lowest_at w m p s) (λ (z : lowest_at w m p s ≡ 0). omega arith)) (omega arith) e))
         q
-      where
-        positive : ¬ (low ≡ 0) → 1 ≤ lowest_at w m p s
-        positive n = ⊎_elim (λ (l : 0 < low). omega arith) (λ (l : low ≤ 0). absurd (n (omega arith))) (below_or 0 low)
 
     pub add-run-all : tells m w s p 0 ≡ true → low ≡ 1 → Grown m d k (λ e. has m w k d e || in_run (d - p) (d - p + h) e) w w'
         → Grown m d k (λ e. has m w k d e || behind m w s d p e) w w'
@@ -251,67 +251,66 @@ module _ (m d k s p : ℕ) (w : List ℕ) (g : Growing m d k w) where
       (λ e a b. behind-nothing m w s d p z (tells-empty m p s w ∙ clear-byte (get_or w s 0) x) e b)
 
 -- the next length of a row: h is its longest length and low its lowest, as the code has them
-module _ (m d k : ℕ) (w : List ℕ) (g : Growing m d k w) (from h low : ℕ) (long : h ≡ longest_at w m d k) where
+module _ (m d k : ℕ) (w : List ℕ) (g : Growing m d k w) (from h : ℕ) (long : h ≡ longest_at w m d k) where
   -- none is left above the longest
   pub length_above : from ≤ d + 1 → h < from → NextLength m w k d from (d + 1)
   length_above x l =
       record { not_before = x; passed = λ e a b c. has_above w m d k e (omega arith); found = λ i. absurd (omega arith) }
 
-  module _ (lower : low ≡ lowest_at w m d k) where
-    -- in a run
-    pub length_run : 1 ≤ from → from ≤ h → ¬ (low ≡ 0) → (r : ℕ) → r ≡ from + (low - from) → NextLength m w k d from r
-    length_run x l n r q =
-        let set : is_set (lowest_at w m d k) ≡ true = set-byte (lowest_at w m d k) (λ (z : lowest_at w m d k ≡ 0). n (omega arith)) in
-        let o : lowest_at w m d k ≤ longest_at w m d k = g.shape.ordered (omega arith) in
+  -- in a run
+  pub length_run : (low : ℕ) → low ≡ lowest_at w m d k → 1 ≤ from → from ≤ h → 1 ≤ low → (r : ℕ) → r ≡ max from low → NextLength m w k d from r
+  length_run low lower x l n r q =
+      let set : is_set (lowest_at w m d k) ≡ true = set-byte (lowest_at w m d k) (λ (z : lowest_at w m d k ≡ 0). omega arith) in
+      let o : lowest_at w m d k ≤ longest_at w m d k = g.shape.ordered (omega arith) in
+      record {
+        not_before = omega arith;
+        passed = λ e a b c. has-run w m d k e set ∙ run-low (lowest_at w m d k) (longest_at w m d k) e (omega arith);
+        found = λ i. has-run w m d k r set ∙ run_in (lowest_at w m d k) (longest_at w m d k) r (omega arith) (omega arith);
+      }
+
+  -- among the marks, which end before `end` and stand from `at` on
+  module _ (z : lowest_at w m d k ≡ 0) (end at : ℕ) (least : end ≡ min (h + 1) d) (place : at ≡ row_at m d k) where
+    mark-passed : (e : ℕ) → e < end → row_set w at e ≡ false → has m w k d e ≡ false
+    unfolding mark_at
+    mark-passed e l x =
+        let y : is_set (get_or w (row_at m d k + e) 0) ≡ false = rw place at x in
+        has-mark w m d k e (clear-byte (lowest_at w m d k) z) (omega arith) (omega arith) ∙ y
+
+    pub length-mark : (r : ℕ) → NextSet w at from end r → r < end → NextLength m w k d from r
+    unfolding mark_at
+    length-mark r n l =
         record {
-          not_before = omega arith;
-          passed = λ e a b c. has-run w m d k e set ∙ run-low (lowest_at w m d k) (longest_at w m d k) e (omega arith);
-          found = λ i. has-run w m d k r set ∙ run_in (lowest_at w m d k) (longest_at w m d k) r (omega arith) (omega arith);
+          not_before = n.not_before;
+          passed = λ e a b c. mark-passed e (omega arith) (n.passed e a b);
+          found = λ i.
+              let y : is_set (get_or w (row_at m d k + r) 0) ≡ true = rw place at (n.found l) in
+              has-mark w m d k r (clear-byte (lowest_at w m d k) z) (omega arith) (omega arith) ∙ y;
         }
 
-    -- among the marks, which end before `end` and stand from `at` on
-    module _ (z : low ≡ 0) (end at : ℕ) (least : end ≡ h + 1 - (h + 1 - d)) (place : at ≡ row_at m d k) where
-      mark-passed : (e : ℕ) → e < end → row_set w at e ≡ false → has m w k d e ≡ false
-      unfolding mark_at
-      mark-passed e l x =
-          let y : is_set (get_or w (row_at m d k + e) 0) ≡ false = rw place at x in
-          has-mark w m d k e (clear-byte (lowest_at w m d k) (omega arith)) (omega arith) (omega arith) ∙ y
+    -- behind the marks: the whole block, or none
+    pub length-end : from ≤ h → h ≡ d → ((e : ℕ) → from ≤ e → e < end → row_set w at e ≡ false) → NextLength m w k d from d
+    length-end a y n =
+        record {
+          not_before = omega arith;
+          passed = λ e b l i. mark-passed e (omega arith) (n e b (omega arith));
+          found = λ i. has-whole w m d k (clear-byte (lowest_at w m d k) z) ∙ le-leb d (longest_at w m d k) (omega arith);
+        }
 
-      pub length-mark : (r : ℕ) → NextSet w at from end r → r < end → NextLength m w k d from r
-      unfolding mark_at
-      length-mark r n l =
-          record {
-            not_before = n.not_before;
-            passed = λ e a b c. mark-passed e (omega arith) (n.passed e a b);
-            found = λ i.
-                let y : is_set (get_or w (row_at m d k + r) 0) ≡ true = rw place at (n.found l) in
-                has-mark w m d k r (clear-byte (lowest_at w m d k) (omega arith)) (omega arith) (omega arith) ∙ y;
-          }
-
-      -- behind the marks: the whole block, or none
-      pub length-end : from ≤ h → h ≡ d → ((e : ℕ) → from ≤ e → e < end → row_set w at e ≡ false) → NextLength m w k d from d
-      length-end a y n =
-          record {
-            not_before = omega arith;
-            passed = λ e b l i. mark-passed e (omega arith) (n e b (omega arith));
-            found = λ i. has-whole w m d k (clear-byte (lowest_at w m d k) (omega arith)) ∙ le-leb d (longest_at w m d k) (omega arith);
-          }
-
-      pub length_none : ¬ (h ≡ d) → from ≤ d + 1 → ((e : ℕ) → from ≤ e → e < end → row_set w at e ≡ false) → NextLength m w k d from (d + 1)
-      length_none y a n =
-          let x : h < d = shorter in
-          record {
-            not_before = a;
-            passed = λ e b l i.
-                ⊎_elim
-                (λ (o : h < e). has_above w m d k e (omega arith))
-                (λ (o : e ≤ h). mark-passed e (omega arith) (n e b (omega arith)))
-                (below_or h e);
-            found = λ i. absurd (omega arith);
-          }
-        where
-          shorter : h < d
-          shorter = ⊎_elim (λ (o : h ≡ d). absurd (y o)) (λ (o : h < d). o) (eq-or-lt_of_le (omega (arith, g.shape.small)))
+    pub length_none : ¬ (h ≡ d) → from ≤ d + 1 → ((e : ℕ) → from ≤ e → e < end → row_set w at e ≡ false) → NextLength m w k d from (d + 1)
+    length_none y a n =
+        let x : h < d = shorter in
+        record {
+          not_before = a;
+          passed = λ e b l i.
+              ⊎_elim
+              (λ (o : h < e). has_above w m d k e (omega arith))
+              (λ (o : e ≤ h). mark-passed e (omega arith) (n e b (omega arith)))
+              (below_or h e);
+          found = λ i. absurd (omega arith);
+        }
+      where
+        shorter : h < d
+        shorter = ⊎_elim (λ (o : h ≡ d). absurd (y o)) (λ (o : h < d). o) (eq-or-lt_of_le (omega (arith, g.shape.small)))
 
 -- cuts that are left out
 module _ (m d k : ℕ) (w : List ℕ) (c : ℕ) (star : Bool) where
@@ -336,12 +335,12 @@ module _ (m d k : ℕ) (w : List ℕ) (c : ℕ) (star : Bool) where
             has-run w m d k e (set-byte (lowest_at w m d k) (λ (x : lowest_at w m d k ≡ 0). omega arith))
             ∙ run_in (lowest_at w m d k) (longest_at w m d k) e (omega arith) (omega arith)
 
-    pub skipped-run : star ≡ true → ¬ (low ≡ 0) → low ≤ c → c ≤ h → Skipped m w k d c star (h + 1)
+    pub skipped-run : star ≡ true → 1 ≤ low → low ≤ c → c ≤ h → Skipped m w k d c star (h + 1)
     skipped-run s n l y =
         record {
           not_before = omega arith;
           held = λ i a b x.
-              has-run w m d k i (set-byte (lowest_at w m d k) (λ (z : lowest_at w m d k ≡ 0). n (omega arith)))
+              has-run w m d k i (set-byte (lowest_at w m d k) (λ (z : lowest_at w m d k ≡ 0). omega arith))
               ∙ run_in (lowest_at w m d k) (longest_at w m d k) i (omega arith) (omega arith);
           free = λ x. inl s;
         }
@@ -350,6 +349,24 @@ module _ (m d k : ℕ) (w : List ℕ) (c : ℕ) (star : Bool) where
 abbrev pub Closed : (m d k s : ℕ) → Bool → (w w' : List ℕ) → Type 0
 Closed m d k s star w w' =
     star ≡ true → (c e : ℕ) → 1 ≤ c → c ≤ e → e ≤ d → has m w' k d c ≡ true → second m w s d c (e - c) ≡ true → has m w' k d e ≡ true
+
+-- the cuts below i are joined, and i is a length of record f's row or above d
+pub record CutAt (m d k f s from : ℕ) (w w' : List ℕ) (i : ℕ) : Type 0 where
+  pub not_before : from ≤ i
+  pub joined : Grown m d k (cuts_joined m w d k f s from i) w w'
+  pub held : i ≤ d → has m w f d i ≡ true
+
+module _ (m d k f s from : ℕ) (w w' : List ℕ) (next : Option ℕ) (at : OfLength d (CutAt m d k f s from w w') next) where
+  pub cut-some : (i : ℕ) → next ≡ Some i → (i ≤ d) × CutAt m d k f s from w w' i
+  cut-some i e = MatchOption-at_some (CutAt m d k f s from w w' (d + 1)) (λ (l : ℕ). (l ≤ d) × CutAt m d k f s from w w' l) i e at
+
+  pub cut-none : next ≡ None → CutAt m d k f s from w w' (d + 1)
+  cut-none e = MatchOption-at_none (CutAt m d k f s from w w' (d + 1)) (λ (l : ℕ). (l ≤ d) × CutAt m d k f s from w w' l) e at
+
+-- fewer cuts are left from the next length on
+pub fewer-left : (m d f i : ℕ) (w : List ℕ) (next : Option ℕ) → OfLength d (NextLength m w f d i) next → d + 1 - unwrap_or next (d + 1) ≤ d + 1 - i
+fewer-left m d f i w None n = omega arith
+fewer-left m d f i w (Some r) (h, n) = omega (arith, n.not_before)
 
 -- one cut is joined
 pub one-cut : (m d k f s i : ℕ) (u v : List ℕ) → 1 ≤ i → i ≤ d → has m u f d i ≡ true
@@ -477,9 +494,19 @@ module _ (m d k f s : ℕ) (star : Bool) (w : List ℕ) (p : Cutting m d k f s s
       (true≢false
       (sym u.2 ∙ sym (first-kept i w' q c (omega (arith, one, u.0)) (omega (arith, u.1))) ∙ n.passed c x y (omega arith))))
 
-  pub first-has : (i r : ℕ) (w' : List ℕ) → Joining i w' → from ≤ i → NextLength m w' f d i r → r ≤ d → has m w f d r ≡ true
+  first-has : (i r : ℕ) (w' : List ℕ) → Joining i w' → from ≤ i → NextLength m w' f d i r → r ≤ d → has m w f d r ≡ true
   first-has i r w' q l n h =
       sym (first-kept i w' q r (omega (arith, one, n.not_before)) h) ∙ n.found h
+
+  -- the next cut at hand
+  pub cut-next : (i : ℕ) (w' : List ℕ) → Joining i w' → from ≤ i → (next : Option ℕ) → OfLength d (NextLength m w' f d i) next
+      → OfLength d (CutAt m d k f s from w w') next
+  cut-next i w' q l None n = at (d + 1) n
+    where
+      at : (r : ℕ) → NextLength m w' f d i r → CutAt m d k f s from w w' r
+      at r n = record { not_before = omega (arith, n.not_before); joined = joining-next i r w' q l n; held = first-has i r w' q l n }
+  cut-next i w' q l (Some r) (h, n) =
+      (h, record { not_before = omega (arith, n.not_before); joined = joining-next i r w' q l n; held = first-has i r w' q l n })
 
   -- past the cuts that are left out
   pub joining-skip : (i r : ℕ) (w' : List ℕ) → Joining i w' → Closed m d k s star w w' → Skipped m w' k d i star r → Joining r w'
@@ -499,14 +526,6 @@ module _ (m d k f s : ℕ) (star : Bool) (w : List ℕ) (p : Cutting m d k f s s
       let u = cut-true (has m w f d) (second m w s d) from e c t in
       n.held c e x y u.1 b
       (tells-lower m d k (cuts_joined m w d k f s from i) w w' known q (d - c) s (omega (arith, one, u.0, u.1)) p.second_known (e - c) (omega arith) ∙ u.3))
-
-  -- all cuts are joined
-  pub joining-end : (i : ℕ) (w' : List ℕ) → Joining i w' → d < i → Joining (d + 1) w'
-  joining-end i w' q l =
-      grown-same q
-      (λ e a b.
-      ap (λ (x : Bool). has m w k d e || x)
-      (some-skip (cut e) (d + 1) i (omega arith) (λ c x y. cut-past (has m w f d) (second m w s d) from e c (omega arith))))
 
   -- what the second sides tell stays
   second-same : (i : ℕ) (u : List ℕ) → Joining i u → (c e : ℕ) → 1 ≤ c → c ≤ e → e ≤ d
@@ -625,7 +644,7 @@ module _ (m d k f s : ℕ) (star : Bool) (w : List ℕ) (p : Cutting m d k f s s
   pub cuts-none : h ≡ 0 → Grown m d k (cuts_joined m w d k f s 1 (d + 1)) w w
   cuts-none z =
       joining-next m d k f s star w p 1 (omega arith) 1 (d + 1) w none (omega arith)
-      (length_above m d f w (first-growing m d k f s star w p 1 (omega arith) 1 w none) 1 h 0 long (omega arith) (omega arith))
+      (length_above m d f w (first-growing m d k f s star w p 1 (omega arith) 1 w none) 1 h long (omega arith) (omega arith))
 
   pub one_earlier : Earlier m d k s (d - 1) w
   one_earlier = second-earlier m d k f s star w p 1 (omega arith) 1 w none 1 (omega arith) p.growing.some_byte
@@ -640,7 +659,7 @@ module _ (m d k f s : ℕ) (star : Bool) (w : List ℕ) (p : Cutting m d k f s s
       ∙ run_in (lowest_at w m d f) (longest_at w m d f) 1 (omega arith) (omega arith) in
       let more = joining-one m d k f s star w p 1 (omega arith) 1 w v none (omega arith) l here g in
       joining-next m d k f s star w p 1 (omega arith) 2 (d + 1) v more (omega arith)
-      (length_above m d f v (first-growing m d k f s star w p 1 (omega arith) 2 v more) 2 h 0
+      (length_above m d f v (first-growing m d k f s star w p 1 (omega arith) 2 v more) 2 h
       (long ∙ sym (first-longest m d k f s star w p 1 (omega arith) 2 v more)) (omega arith) (omega arith))
 
 -- cuts of which none is left out may be joined wherever some may be
@@ -663,7 +682,7 @@ mark-byte m d k e w = refl
 
 -- a row that has every length up to its longest
 module _ (m d k : ℕ) (w : List ℕ) where
-  pub closed_run : Growing m d k w → (h end at : ℕ) → h ≡ longest_at w m d k → lowest_at w m d k ≡ 0 → at ≡ row_at m d k → end ≡ h + 1 - (h + 1 - d)
+  pub closed_run : Growing m d k w → (h end at : ℕ) → h ≡ longest_at w m d k → lowest_at w m d k ≡ 0 → at ≡ row_at m d k → end ≡ min (h + 1) d
       → ((i : ℕ) → 1 ≤ i → i < end → row_set w at i ≡ true)
       → (w' : List ℕ)
       → Grown m d k (in_run 1 h) w w'

@@ -1,8 +1,8 @@
 -- Laws of runs behind cuts: what a record spells of a block as a run, two runs that are one, and a run that cuts extend one by one.
 -- Assumes nothing.
-use Prim.Native.Nat.{ℕ, ◌+◌, ◌-◌, ◌≤◌, ◌<◌}
+use Prim.Native.Nat.{ℕ, ◌+◌, ◌-◌, ◌≤◌, ◌<◌, min, max}
 use native.Mathlib.Omega.{arith}
-use mathlib.Core.Path.{◌≡◌, refl, sym, ◌∙◌}
+use mathlib.Core.Path.{◌≡◌, sym, ◌∙◌}
 use mathlib.Core.Logic.{◌⊎◌, inl, inr, ⊎_elim}
 use mathlib.Core.Bool.{true, false, true≢false, cond, ◌||◌}
 use mathlib.Core.List.{List}
@@ -17,10 +17,6 @@ use Rattle.rows.proofs.Bytes.{set-byte, clear-byte}
 use Rattle.rows.proofs.Growing.{run_in, run-true, run-low, run-high, has_above, has-run, tells-has}
 use Rattle.rows.proofs.Joining.{tells-empty}
 
--- a number that is not 0
-pub positive : (x : ℕ) → ¬ (x ≡ 0) → 1 ≤ x
-positive x n = ⊎_elim (λ (l : 0 < x). l) (λ (l : x ≤ 0). absurd (n (omega arith))) (below_or 0 x)
-
 -- The longest length that a record spells of the last p bytes: the header of its row, and 0 where there is none.
 
 module _ (p x : ℕ) where
@@ -28,7 +24,7 @@ module _ (p x : ℕ) where
   high-none z = rw (le-leb p 0 (omega arith))
 
   pub high-row : ¬ (p ≡ 0) → x ≡ cond (leb p 0) 0 x
-  high-row n = rw (lt-leb p 0 (positive p n))
+  high-row n = rw (lt-leb p 0 (omega arith))
 
 -- h is that length
 module _ (m s p : ℕ) (w : List ℕ) (h : ℕ) (long : h ≡ cond (leb p 0) 0 (longest_at w m p s)) where
@@ -63,43 +59,37 @@ module _ (m s p : ℕ) (w : List ℕ) (h : ℕ) (long : h ≡ cond (leb p 0) 0 (
   pub low-empty : h ≡ 0 → tells m w s p 0 ≡ true → LowBehind m w s p h 0
   low-empty z t =
       record {
-        small = omega arith;
-        ordered = λ l. omega arith;
-        told = λ l e b.
+        ordered = omega arith;
+        told = λ e b.
             ⊎_elim
             (λ (x : 0 < e). high-above e (omega arith) b ∙ sym (run-high 0 h e (omega arith)))
             (λ (x : e ≤ 0). let q : e ≡ 0 = omega arith in rw q (t ∙ sym (run_in 0 h 0 (omega arith) (omega arith))))
             (below_or 0 e);
       }
 
-  -- no run
-  pub low-none : LowBehind m w s p h 256
-  low-none = record { small = omega arith; ordered = λ l. absurd (omega arith); told = λ l. absurd (omega arith) }
-
   module _ (shape : 1 ≤ p → Shaped m p s w) (some : ¬ (h ≡ 0)) (low : ℕ) (lower : low ≡ lowest_at w m p s) where
-    run-has : ¬ (low ≡ 0) → (e : ℕ) → 1 ≤ e → tells m w s p e ≡ in_run low h e
+    run-has : 1 ≤ low → (e : ℕ) → 1 ≤ e → tells m w s p e ≡ in_run low h e
     run-has n e l =
         rw (lower, high-longest (high-some some))
-        (tells-has w m s p e l ∙ has-run w m p s e (set-byte (lowest_at w m p s) (λ (z : lowest_at w m p s ≡ 0). n (lower ∙ z))))
+        (tells-has w m s p e l ∙ has-run w m p s e (set-byte (lowest_at w m p s) (λ (z : lowest_at w m p s ≡ 0). omega arith)))
 
     -- a run without the empty part
-    pub low-rest : low < 256 → get_or w s 0 ≡ 0 → ¬ (low ≡ 0) → LowBehind m w s p h low
-    low-rest b x n =
+    pub low-rest : get_or w s 0 ≡ 0 → 1 ≤ low → LowBehind m w s p h low
+    low-rest x n =
         record {
-          small = omega arith;
-          ordered = λ l.
+          ordered =
               omega (
                 arith,
                 lower,
                 high-longest (high-some some),
-                (shape (high-some some)).ordered (omega (arith, positive h some, high-longest (high-some some))),
+                (shape (high-some some)).ordered (omega (arith, high-longest (high-some some))),
               );
-          told = λ l e a.
+          told = λ e a.
               ⊎_elim
               (λ (y : 0 < e). run-has n e y)
               (λ (y : e ≤ 0).
               let q : e ≡ 0 = omega arith in
-              rw q (tells-empty m p s w ∙ clear-byte (get_or w s 0) x ∙ sym (run-low low h 0 (positive low n))))
+              rw q (tells-empty m p s w ∙ clear-byte (get_or w s 0) x ∙ sym (run-low low h 0 n)))
               (below_or 0 e);
         }
 
@@ -107,11 +97,10 @@ module _ (m s p : ℕ) (w : List ℕ) (h : ℕ) (long : h ≡ cond (leb p 0) 0 (
     pub low-all : ¬ (get_or w s 0 ≡ 0) → low ≡ 1 → LowBehind m w s p h 0
     low-all x one =
         record {
-          small = omega arith;
-          ordered = λ l. omega arith;
-          told = λ l e a.
+          ordered = omega arith;
+          told = λ e a.
               ⊎_elim
-              (λ (y : 0 < e). run-has (λ (z : low ≡ 0). omega arith) e y ∙ wider e y)
+              (λ (y : 0 < e). run-has (omega arith) e y ∙ wider e y)
               (λ (y : e ≤ 0).
               let q : e ≡ 0 = omega arith in
               rw q (tells-empty m p s w ∙ set-byte (get_or w s 0) x ∙ sym (run_in 0 h 0 (omega arith) (omega arith))))
@@ -128,48 +117,46 @@ module _ (m s p : ℕ) (w : List ℕ) (h : ℕ) (long : h ≡ cond (leb p 0) 0 (
 
 module _ (low high a b : ℕ) where
   -- the first has no length
-  pub join_first : 1 ≤ low → high ≡ 0 → a ≤ b → JoinedRun low high a b a
-  join_first l z o =
+  pub join_first : 1 ≤ low → high ≡ 0 → 1 ≤ a → a ≤ b → JoinedRun low high a b a
+  join_first l z f o =
       record {
-        ordered = λ n. omega arith;
-        same = λ n e.
-            same_truth (in_run a (high + (b - high)) e) (in_run low high e || in_run a b e)
+        positive = f;
+        ordered = omega arith;
+        same = λ e.
+            same_truth (in_run a (max high b) e) (in_run low high e || in_run a b e)
             (λ t.
-            let p = run-true a (high + (b - high)) e t in
+            let p = run-true a (max high b) e t in
             or-second (in_run low high e) (run_in a b e p.0 (omega arith)))
             (λ t.
             ⊎_elim
             (λ (x : in_run low high e ≡ true). let p = run-true low high e x in absurd (omega arith))
             (λ (x : in_run a b e ≡ true).
             let p = run-true a b e x in
-            run_in a (high + (b - high)) e p.0 (omega arith))
+            run_in a (max high b) e p.0 (omega arith))
             (either (in_run low high e) (in_run a b e) t));
       }
 
-  -- they are not joined
-  pub join-none : JoinedRun low high a b 0
-  join-none = record { ordered = λ n. absurd (n refl); same = λ n. absurd (n refl) }
-
   -- they meet
-  pub join-both : low ≤ high → a ≤ b → a ≤ high + 1 → low ≤ b + 1 → (r : ℕ) → r ≡ low - (low - a) → JoinedRun low high a b r
-  join-both o q x y r z =
+  pub join-both : 1 ≤ low → 1 ≤ a → low ≤ high → a ≤ b → a ≤ high + 1 → low ≤ b + 1 → (r : ℕ) → r ≡ min low a → JoinedRun low high a b r
+  join-both l f o q x y r z =
       record {
-        ordered = λ n. omega arith;
-        same = λ n e.
-            same_truth (in_run r (high + (b - high)) e) (in_run low high e || in_run a b e)
-            (λ t. there e (run-true r (high + (b - high)) e t))
+        positive = omega arith;
+        ordered = omega arith;
+        same = λ e.
+            same_truth (in_run r (max high b) e) (in_run low high e || in_run a b e)
+            (λ t. there e (run-true r (max high b) e t))
             (λ t.
             ⊎_elim
             (λ (v : in_run low high e ≡ true).
             let p = run-true low high e v in
-            run_in r (high + (b - high)) e (omega arith) (omega arith))
+            run_in r (max high b) e (omega arith) (omega arith))
             (λ (v : in_run a b e ≡ true).
             let p = run-true a b e v in
-            run_in r (high + (b - high)) e (omega arith) (omega arith))
+            run_in r (max high b) e (omega arith) (omega arith))
             (either (in_run low high e) (in_run a b e) t));
       }
     where
-      there : (e : ℕ) → (r ≤ e) × (e ≤ high + (b - high)) → (in_run low high e || in_run a b e) ≡ true
+      there : (e : ℕ) → (r ≤ e) × (e ≤ max high b) → (in_run low high e || in_run a b e) ≡ true
       there e p =
           ⊎_elim
           (λ (u : e < low). or-second (in_run low high e) (run_in a b e (omega arith) (omega arith)))
@@ -186,9 +173,9 @@ module _ (m d k : ℕ) (w : List ℕ) (c : ℕ) (t : has m w k d c ≡ true) whe
   pub end-here : (i : ℕ) → c ≤ i → i ≤ c → has m w k d i ≡ true
   end-here i a b = let q : i ≡ c = omega arith in rw q t
 
-  pub end-run : (h low : ℕ) → h ≡ longest_at w m d k → low ≡ lowest_at w m d k → ¬ (low ≡ 0) → (i : ℕ) → c ≤ i → i ≤ h → has m w k d i ≡ true
+  pub end-run : (h low : ℕ) → h ≡ longest_at w m d k → low ≡ lowest_at w m d k → 1 ≤ low → (i : ℕ) → c ≤ i → i ≤ h → has m w k d i ≡ true
   end-run h low long lower n i a b =
-      let set : is_set (lowest_at w m d k) ≡ true = set-byte (lowest_at w m d k) (λ (z : lowest_at w m d k ≡ 0). n (lower ∙ z)) in
+      let set : is_set (lowest_at w m d k) ≡ true = set-byte (lowest_at w m d k) (λ (z : lowest_at w m d k ≡ 0). omega arith) in
       let p = run-true (lowest_at w m d k) (longest_at w m d k) c (sym (has-run w m d k c set) ∙ t) in
       has-run w m d k i set ∙ run_in (lowest_at w m d k) (longest_at w m d k) i (omega arith) (omega arith)
 
@@ -249,32 +236,32 @@ module _ (m d s c end low high : ℕ) (w : List ℕ) where
         }
 
     -- the cut's lengths, those from i + l to i + h, are joined to the run
-    pub reached-more : i ≤ end → end ≤ d → (h l : ℕ) → i + h ≤ d → l ≤ 255 → LowBehind m w s (d - i) h l → (r : ℕ) → ¬ (r ≡ 0)
+    pub reached-more : i < end + 1 → end ≤ d → (h l : ℕ) → i + h ≤ d → LowBehind m w s (d - i) h l → (r : ℕ)
         → JoinedRun bottom top (i + l) (i + h) r
         → (high' : ℕ)
-        → high' ≡ top + (i + h - top)
+        → high' ≡ max top (i + h)
         → Reached m w d s c end low high r high' (i + 1)
-    reached-more before within h l b small q r n j high' eh =
+    reached-more before within h l b q r j high' eh =
         rw eh
         record {
           not_before = omega (arith, p.not_before);
           not_behind = omega arith;
-          positive = positive r n;
+          positive = j.positive;
           small = omega (arith, p.small);
-          ordered = λ _. j.ordered n;
-          kept = λ e t. j.same n e ∙ rw (p.kept e t);
+          ordered = λ _. j.ordered;
+          kept = λ e t. j.same e ∙ rw (p.kept e t);
           found = λ e t.
               ⊎_elim
               (λ (x : in_run bottom top e ≡ true). earlier e (p.found e x))
               (λ (x : in_run (i + l) (i + h) e ≡ true). inr (here e (run-true (i + l) (i + h) e x)))
-              (either (in_run bottom top e) (in_run (i + l) (i + h) e) (sym (j.same n e) ∙ t));
+              (either (in_run bottom top e) (in_run (i + l) (i + h) e) (sym (j.same e) ∙ t));
           held = λ k e a x y u t.
               ⊎_elim
-              (λ (v : k < i). j.same n e ∙ rw (p.held k e a v y u t))
+              (λ (v : k < i). j.same e ∙ rw (p.held k e a v y u t))
               (λ (v : i ≤ k).
               let same : k ≡ i = omega arith in
-              let z = run-true l h (e - i) (sym (q.told small (e - i) (omega arith)) ∙ (rw same at t)) in
-              j.same n e ∙ or-second (in_run bottom top e) (run_in (i + l) (i + h) e (omega arith) (omega arith)))
+              let z = run-true l h (e - i) (sym (q.told (e - i) (omega arith)) ∙ (rw same at t)) in
+              j.same e ∙ or-second (in_run bottom top e) (run_in (i + l) (i + h) e (omega arith) (omega arith)))
               (below_or k i);
         }
       where
@@ -288,10 +275,10 @@ module _ (m d s c end low high : ℕ) (w : List ℕ) where
             record {
               place = i;
               not_before = p.not_before;
-              not_behind = before;
+              not_behind = omega arith;
               done = omega arith;
               within = omega arith;
-              spelled = q.told small (e - i) (omega arith) ∙ run_in l h (e - i) (omega arith) (omega arith);
+              spelled = q.told (e - i) (omega arith) ∙ run_in l h (e - i) (omega arith) (omega arith);
             }
 
     -- a run up to the block's end that starts no later than the next cut has whatever later cuts add

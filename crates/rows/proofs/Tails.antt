@@ -1,6 +1,6 @@
 -- Laws of the lengths that a row which is written out has up to the last one.
 -- Assumes nothing.
-use Prim.Native.Nat.{ℕ, ◌+◌, ◌-◌, ◌≤◌, ◌<◌}
+use Prim.Native.Nat.{ℕ, ◌+◌, ◌-◌, ◌≤◌, ◌<◌, min}
 use native.Mathlib.Nat.{eq-or-lt_of_le}
 use native.Mathlib.Omega.{arith}
 use mathlib.Core.Path.{◌≡◌, ◌∙◌}
@@ -24,7 +24,7 @@ module _ (m d k : ℕ) (w : List ℕ) (g : Growing m d k w) (h : ℕ) (o : Writt
   whole = has-whole w m d k unset ∙ le-leb d (longest_at w m d k) (omega (arith, o.long))
 
   -- it has each length from the lesser of t and d on
-  pub tail-whole : (t r : ℕ) → Tail m w k d t → r ≡ t - (t - d) → Tail m w k d r
+  pub tail-whole : (t r : ℕ) → Tail m w k d t → r ≡ min t d → Tail m w k d r
   tail-whole t r p q e a b =
       ⊎_elim
       (λ (x : e ≡ d). rw x whole)

@@ -1,6 +1,6 @@
 -- What the functions on rows of the work area are given and leave. They know neither table nor line.
 -- Assumes nothing.
-use Rattle.std.specs.Prelude.{ℕ, ◌+◌, ◌-◌, ◌≤◌, ◌<◌, ◌≡◌, ◌⊎◌, Bool, true, false, ◌&&◌, ◌||◌, List, leb, length, get_or}
+use Rattle.std.specs.Prelude.{ℕ, ◌+◌, ◌-◌, ◌≤◌, ◌<◌, max, ◌≡◌, ◌⊎◌, Bool, true, false, ◌&&◌, ◌||◌, List, Option, MatchOption, leb, length, get_or}
 use Rattle.rows.specs.Layout.{area_size, head_at, row_at, is_set, longest_at, lowest_at, mark_at, in_row, has, tells}
 use Rattle.rows.specs.Cuts.{some, cut_at}
 
@@ -29,6 +29,16 @@ pub record NextSet (w : List ℕ) (start from end r : ℕ) : Type 0 where
   pub found : r < end → row_set w start r ≡ true
 
 -- Rows.
+
+-- the row is a run, and low its lowest length
+pub record RunFrom (w : List ℕ) (m d k low : ℕ) : Type 0 where
+  pub lowest : low ≡ lowest_at w m d k
+  pub positive : 1 ≤ low
+  pub byte : low < 256
+
+-- low is the lowest length of the row's run, or None where the row is written out
+abbrev pub RunTold : List ℕ → ℕ → ℕ → ℕ → Option ℕ → Type 0
+RunTold w m d k low = MatchOption low (lowest_at w m d k ≡ 0) (RunFrom w m d k)
 
 -- the header and the row of record k in block d stand inside the area
 pub record Inside (m d k : ℕ) (w : List ℕ) : Type 0 where
@@ -113,6 +123,10 @@ pub record NextLength (m : ℕ) (w : List ℕ) (k d from r : ℕ) : Type 0 where
   pub passed : (e : ℕ) → from ≤ e → e < r → e ≤ d → has m w k d e ≡ false
   pub found : r ≤ d → has m w k d r ≡ true
 
+-- P holds of the length r, or of d + 1 where there is none
+abbrev pub OfLength : ℕ → (ℕ → Type 0) → Option ℕ → Type 0
+OfLength d P r = MatchOption r (P (d + 1)) (λ l. (l ≤ d) × P l)
+
 -- what cutting needs: the rows that are read stand before the one that grows; and where cuts that the row already has are left out, the
 -- second sides follow on one another and the row is closed under them
 pub record Cutting (m d k f s : ℕ) (star : Bool) (w : List ℕ) : Type 0 where
@@ -168,16 +182,16 @@ pub record WrittenOut (m d k h : ℕ) (w : List ℕ) : Type 0 where
 
 -- Runs behind cuts.
 
--- what record s spells of the last p bytes, the empty part included, are the lengths from low to h, unless low is above 255
+-- what record s spells of the last p bytes, the empty part included, are the lengths from low to h
 pub record LowBehind (m : ℕ) (w : List ℕ) (s p h low : ℕ) : Type 0 where
-  pub small : low ≤ 256
-  pub ordered : low ≤ 255 → low ≤ h
-  pub told : low ≤ 255 → (e : ℕ) → e ≤ p → tells m w s p e ≡ in_run low h e
+  pub ordered : low ≤ h
+  pub told : (e : ℕ) → e ≤ p → tells m w s p e ≡ in_run low h e
 
--- unless r is 0, the lengths from low to high and those from a to b are together those from r to the larger end
+-- the lengths from low to high and those from a to b are together those from r to the larger end
 pub record JoinedRun (low high a b r : ℕ) : Type 0 where
-  pub ordered : ¬ (r ≡ 0) → r ≤ high + (b - high)
-  pub same : ¬ (r ≡ 0) → (e : ℕ) → in_run r (high + (b - high)) e ≡ (in_run low high e || in_run a b e)
+  pub positive : 1 ≤ r
+  pub ordered : r ≤ max high b
+  pub same : (e : ℕ) → in_run r (max high b) e ≡ (in_run low high e || in_run a b e)
 
 -- the first e of the last d bytes may be cut behind `place` bytes, a number from c on that is neither above `end` nor reaches `next`: record s
 -- spells the rest

@@ -1,13 +1,10 @@
 -- `rows::next_set` meets its contract. The loop's invariant: no byte from `from` up to `i` is set.
 -- Assumes nothing.
-use Prim.Native.Nat.{ℕ, ◌≤◌, ◌<◌, ◌-◌}
+use Prim.Native.Nat.{ℕ, ◌≤◌, ◌<◌}
 use mathlib.Core.Bool.{false}
 use mathlib.Core.Path.{◌≡◌}
 use Rattle.rows.specs.Rows.{row_set}
 use Rattle.rows.proofs.next_set.Given as goal
 
 abbrev pub invariant-loop-i : goal.invariant-loop-i
-invariant-loop-i l = (l.from ≤ l.i) × (l.i ≤ l.end) × ((j : ℕ) → l.from ≤ j → j < l.i → row_set l.work l.start j ≡ false)
-
-abbrev pub decreases-loop-i : goal.decreases-loop-i
-decreases-loop-i l = l.end - l.i
+invariant-loop-i l = (j : ℕ) → l.from ≤ j → j < l.i → row_set l.work l.start j ≡ false

@@ -1,0 +1,16 @@
+-- `rows::Row::add_marks` meets its contract: the row is written out and raised.
+-- Assumes nothing.
+use mathlib.Core.Path.{refl}
+use Rattle.rows.proofs.Marking.{explicit-open, explicit-grown}
+use Rattle.rows.proofs.Row.add_marks.Goals as goal
+
+pub raise_run-requires : goal.raise_run-requires
+raise_run-requires c =
+    let long = c.longest-h.ensures.0 in
+    record { is_open = explicit-open c.requires.growing c.without_run.ensures _ long; le_low = c.requires.le_low; long = rw long c.requires.long }
+
+pub returns : goal.returns
+returns c =
+    let long = c.longest-h.ensures.0 in
+    explicit-grown c.requires.growing c.without_run.ensures _ long _ _ (λ e b. refl)
+    c.raise_run.ensures.grown
