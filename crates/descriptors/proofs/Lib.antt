@@ -1,2 +1,2 @@
--- What the crates above cite of reading.
-pub mod Filling
+-- What reads and writes that are tried again do to known bytes.
+pub mod Tries

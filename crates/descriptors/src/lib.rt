@@ -3,25 +3,13 @@
 
 #![tactic(auto)]
 
-ghost use Rattle.std.specs.Prelude.{◌≡◌, ◌≤◌, length};
-ghost use Rattle.descriptors.specs.Reads.{failed_read, Inside};
+ghost use Rattle.std.specs.Prelude.{◌≤◌, ◌<◌, length, take, IfOk, OnOk};
+ghost use Rattle.std.specs.Io.{ReadsAtMost};
+ghost use Rattle.std.specs.Io.KnownBytes.{ReadConsumes, Consumes, Appends, IsAtEnd};
 
+use std::io;
 use std::io::{Cursor, Error, ErrorKind, Read, Write};
 use std::time::Clock;
-
-// What reading to the end came to: so many bytes, or a read that failed.
-#[derive(Drop)]
-pub enum Filled {
-    Bytes(usize),
-    Failed,
-}
-
-// Whether a read failed, by its answer. The end of the input is not a failure, and a failure not the end of the input.
-pub fn is_failure(answer: isize) -> bool
-    ensures { result ≡ failed_read answer }
-{
-    answer < 0
-}
 
 // Whether a read or a write that failed is to be tried again: a signal interrupted it, or the descriptor would block, which is waited for.
 fn is_to_be_tried_again(clock: &impl Clock, why: &Error) -> bool {
@@ -35,109 +23,73 @@ fn is_to_be_tried_again(clock: &impl Clock, why: &Error) -> bool {
     }
 }
 
-// One call of read, which answers as POSIX's: the bytes read, 0 at the input's end, or -1, and then `why` says why.
-fn read_once(source: &mut impl Read, buffer: &mut [u8], why: &mut Error) -> isize {
-    match source.read(buffer) {
-        Ok(n) => n as isize,
-        Err(error) => {
-            *why = error;
-            -1
-        }
-    }
-}
-
-// One call of write, which answers as POSIX's: the bytes written, or -1, and then `why` says why.
-fn write_once(target: &mut impl Write, bytes: &[u8], why: &mut Error) -> isize {
-    match target.write(bytes) {
-        Ok(n) => n as isize,
-        Err(error) => {
-            *why = error;
-            -1
-        }
-    }
-}
-
-// One read, which answers as POSIX's: the bytes read, 0 at the input's end, or -1, and then `why` says why. A proved loop has to end, so this one
-// counts its turns down, from a number that no run uses up.
-pub fn read_some(
+// One read: the number of bytes read, 0 at the input's end. A proved loop has to end, so this one has a number of turns that no run uses up.
+pub fn read_some<R: Read>(
     clock: &impl Clock,
-    source: &mut impl Read,
+    source: &mut R,
     buffer: &mut [u8],
-    why: &mut Error,
-) -> isize {
-    let mut turns = u64::MAX;
-    while turns > 0 {
-        let got = read_once(source, buffer, why);
-        if !is_failure(got) {
-            return got;
+) -> io::Result<usize>
+    ensures bound { ReadsAtMost result buffer.new }
+    ensures bytes { ReadConsumes (R.remaining source.old) (R.remaining source.new) result buffer.new }
+{
+    for _ in 1..u64::MAX {
+        match source.read(buffer) {
+            Err(why) if is_to_be_tried_again(clock, &why) => {}
+            answer => return answer,
         }
-        if !is_to_be_tried_again(clock, why) {
-            return got;
-        }
-        turns -= 1;
     }
-    -1
+    source.read(buffer)
 }
 
-// Reads until the input ends or the buffer is full. Where a read fails, `why` says why, and what came before does not count.
-pub fn read_whole(
+// Reads until the input ends or the buffer is full. Where a read fails, what came before does not count.
+pub fn read_whole<R: Read>(
     clock: &impl Clock,
-    source: &mut impl Read,
+    source: &mut R,
     buffer: &mut [u8],
-    why: &mut Error,
-) -> Filled
-    ensures { Inside result (length buffer.new) }
+) -> io::Result<usize>
+    ensures bound { IfOk result (λ n. n ≤ length buffer.new) }
+    ensures bytes { IfOk result (λ n. Consumes (R.remaining source.old) (R.remaining source.new) (take n buffer.new)) }
+    ensures end { IfOk result (λ n. n < length buffer.new → IsAtEnd (R.remaining source.new)) }
 {
     let mut done = 0;
     while done < buffer.len() {
-        let got = read_some(clock, source, &mut buffer[done..], why);
-        if is_failure(got) {
-            return Filled::Failed;
-        }
-        let n = io::count(got, &buffer[done..]);
+        let n = read_some(clock, source, &mut buffer[done..])?;
         if n == 0 {
-            return Filled::Bytes(done);
+            break;
         }
         done += n;
     }
-    Filled::Bytes(done)
+    Ok(done)
 }
 
-// Writes bytes, and says whether all were written. Where not, `why` says why.
-pub fn write_whole(
-    clock: &impl Clock,
-    target: &mut impl Write,
-    bytes: &[u8],
-    why: &mut Error,
-) -> bool {
-    let mut done = 0;
-    let mut turns = u64::MAX;
-    while done < bytes.len() {
-        let put = write_once(target, &bytes[done..], why);
-        let n = io::count(put, &bytes[done..]);
-        if n == 0 {
-            if turns == 0 || put == 0 || !is_to_be_tried_again(clock, why) {
-                return false;
-            }
-            turns -= 1;
+// Writes all bytes. A write that takes none fails with the last failure that was tried again, if there was one.
+pub fn write_whole<W: Write>(clock: &impl Clock, target: &mut W, bytes: &[u8]) -> io::Result<()>
+    ensures { OnOk result (Appends (W.contents target.old) (W.contents target.new) bytes.now) }
+{
+    let mut rest = bytes;
+    let mut last = Error::from_raw_os_error(0);
+    for _ in 0..u64::MAX {
+        if rest.is_empty() {
+            return Ok(());
         }
-        done += n;
+        match target.write(rest) {
+            Ok(0) => return Err(last),
+            Ok(n) => rest = &rest[n..],
+            Err(why) if is_to_be_tried_again(clock, &why) => last = why,
+            Err(why) => return Err(why),
+        }
     }
-    true
+    Err(last)
 }
 
 // How long an error's text is without the number that std puts behind it: 14 of "Is a directory (os error 21)".
 fn text_length(text: &[u8]) -> usize
     ensures { result ≤ length text.now }
 {
-    let mut i = text.len();
-    while i > 1 {
-        i -= 1;
-        if text[i] == b'(' {
-            return i - 1;
-        }
+    match text.iter().rposition(|&b| b == b'(') {
+        Some(at) if at > 0 => at - 1,
+        _ => text.len(),
     }
-    text.len()
 }
 
 // Writes a line to standard error: what failed, as the caller names it, a colon and why. A line that cannot be written is lost.

@@ -11,14 +11,10 @@ pub fn line_end(block: &[u8], from: usize) -> usize
     requires { from ≤ length block.now }
     ensures { NextEnd block.now from result }
 {
-    let mut i = from;
-    while i < block.len() {
-        if block[i] == 10 {
-            return i;
-        }
-        i += 1;
+    match block[from..].iter().position(|&b| b == b'\n') {
+        Some(passed) => from + passed,
+        None => block.len(),
     }
-    i
 }
 
 // Where the line behind one begins that ends at a position: behind its byte 10, or at the block's end where there is none.
@@ -26,10 +22,7 @@ pub fn next_line(block: &[u8], end: usize) -> usize
     requires { end ≤ length block.now }
     ensures { result ≡ min (end + 1) (length block.now) }
 {
-    if end < block.len() {
-        return end + 1;
-    }
-    end
+    (end + 1).min(block.len())
 }
 
 // How many lines an input has.
@@ -52,16 +45,8 @@ pub fn keep(line: &mut [u8], kept: usize, bytes: &[u8]) -> usize
     requires kept { kept ≤ 256 }
     ensures { Kept line.old kept bytes.now line.new result }
 {
-    let mut next = kept;
-    let mut i = 0;
-    while i < bytes.len() {
-        if next == 256 {
-            return next;
-        }
-        line[next] = bytes[i];
-        next += 1;
-        i += 1;
-    }
+    let next = (kept + bytes.len()).min(256);
+    line[kept..next].copy_from_slice(&bytes[..next - kept]);
     next
 }
 

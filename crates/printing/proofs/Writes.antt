@@ -1,12 +1,14 @@
 -- Texts written one after another.
 -- Assumes nothing.
-use Prim.Native.Nat.{ℕ, ◌+◌, ◌≤◌, ◌<◌}
+use Prim.Native.Nat.{ℕ, ◌+◌, ◌-◌, ◌≤◌}
 use mathlib.Core.Path.{◌≡◌, refl, ◌∙◌, ap}
 use mathlib.Core.List.{List, [], ◌∷◌, ◌++◌}
 use native.Mathlib.Omega.{arith}
-use native.Mathlib.Numerals.{add-one}
-use lib.ListN.{length, take, drop, get_or, set, length-append}
-use lib.Seq.{sets, length-sets, take-suc, take-length}
+use lib.ListN.{length, drop, set, length-append}
+use lib.Seq.{sets, length-sets}
+use borrow.Rule.Slice.PartMut.{put_mid}
+use Rattle.std.proofs.lemmas.List.Edits.{sets-eq}
+use Rattle.std.proofs.lemmas.Grind.{common_steps}
 use Rattle.reading.proofs.Writing.{sets_more, sets-front}
 use Rattle.printing.specs.Writes.{Wrote}
 
@@ -30,16 +32,11 @@ wrote_none o at = record { moved = omega arith; buffer = refl }
 pub wrote-byte : (o after : List ℕ) (at next x : ℕ) → after ≡ set o at x → next ≡ at + 1 → Wrote o after at next (x ∷ [])
 wrote-byte o after at next x e f = record { moved = f; buffer = e }
 
--- one byte more of a text
-pub wrote-more :
-    (text a b c : List ℕ) (at i : ℕ) → Wrote a b at (at + i) (take i text) → i < length text → c ≡ set b (at + i) (get_or text i 0)
-    → Wrote a c at (at + (i + 1)) (take (i + 1) text)
-wrote-more text a b c at i w h e =
-    rw (add-one i) (rw (take-suc text i 0 h) (wrote_then w (record { moved = omega (arith, add-one i); buffer = e })))
-
--- the whole of a text
-pub wrote-all : (text a b : List ℕ) (at i : ℕ) → Wrote a b at (at + i) (take i text) → i ≡ length text → Wrote a b at (at + i) text
-wrote-all text a b at i w e = rw (ap (λ (n : ℕ). take n text) e ∙ take-length text) at w
+-- a text copied to its place
+pub wrote-copy :
+    (o text copied : List ℕ) (at : ℕ) → at + length text ≤ length o → copied ≡ text
+    → Wrote o (put_mid at (at + length text - at) o copied) at (at + length text) text
+wrote-copy o text copied at h e = record { moved = refl; buffer = grind (arith, common_steps, sets-eq) }
 
 -- a text written at the front: the later bytes are left
 pub wrote-front :
@@ -51,10 +48,6 @@ wrote-front {a} {b} {n} {xs} w h =
 -- equal texts
 pub wrote_as : {a b : List ℕ} {at next : ℕ} {xs ys : List ℕ} → Wrote a b at next xs → xs ≡ ys → Wrote a b at next ys
 wrote_as w e = rw e at w
-
--- the start of a text
-pub wrote-start : (o text : List ℕ) (at : ℕ) → Wrote o o at (at + 0) (take 0 text)
-wrote-start o text at = record { moved = refl; buffer = refl }
 
 -- of m + k bytes of room at least k are left after a text of at most m
 pub wrote-room :

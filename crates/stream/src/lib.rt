@@ -6,39 +6,67 @@ ghost use Rattle.report.specs.Report.{line_report};
 ghost use Rattle.printing.specs.Writes.{Wrote};
 ghost use Rattle.stream.specs.Output.{last_record};
 ghost use Rattle.stream.specs.Blocks.{Took, last_report};
-ghost use Rattle.stream.specs.Buffers.{Buffers};
 
-// What stands after a part of a block: the bytes of it that were taken, the bytes written to the output buffer, the bytes kept of the line
-// that has not ended yet, and the lines ended so far.
+// The buffers that a report is made with.
+#[derive(Drop)]
+pub struct Buffers {
+    pub work: [u8; 65536],
+    pub reading: [u8; 32768],
+    pub tokens: [u8; 4096],
+}
+
+impl Buffers {
+    pub fn new() -> Buffers {
+        Buffers {
+            work: [0; 65536],
+            reading: [0; 32768],
+            tokens: [0; 4096],
+        }
+    }
+}
+
+// What stands between two blocks of input: the first bytes of the line that has not ended yet, how many are kept, and the lines ended so far.
+#[derive(Drop)]
+pub struct OpenLine {
+    pub bytes: [u8; 256],
+    pub kept: usize,
+    pub ended: u64,
+    pub ghost few: { kept ≤ 256 },
+}
+
+impl OpenLine {
+    // Before the first block nothing is kept and no line ended.
+    pub fn new() -> OpenLine
+        ensures kept { result.kept ≡ 0 }
+        ensures ended { result.ended ≡ 0 }
+    {
+        OpenLine {
+            bytes: [0; 256],
+            kept: 0,
+            ended: 0,
+        }
+    }
+
+    // The bytes that are kept.
+    pub fn kept(&self) -> &[u8]
+        ensures { result.now ≡ take self.now.kept self.now.bytes }
+    {
+        &self.bytes[..self.kept]
+    }
+}
+
+// What a call did: the bytes of the block that were taken, and the bytes written to the output buffer.
 #[derive(Drop)]
 pub struct Progress {
     pub taken: usize,
     pub written: usize,
-    pub kept: usize,
-    pub ended: u64,
-}
-
-// Before the first block nothing is kept and no line ended.
-pub fn begin() -> Progress
-    ensures { result ≡ record { taken = 0; written = 0; kept = 0; ended = 0 } }
-{
-    Progress {
-        taken: 0,
-        written: 0,
-        kept: 0,
-        ended: 0,
-    }
 }
 
 // The number of the table's last record, at which the program starts.
 fn last_record(table: &[u8]) -> usize
     ensures { result ≡ last_record table.now }
 {
-    let records = table.len() / 4;
-    if records == 0 {
-        return 0;
-    }
-    records - 1
+    (table.len() / 4).saturating_sub(1)
 }
 
 // Writes the report of a line at a position of the output buffer and returns the position behind it.
@@ -46,14 +74,11 @@ fn end_line(
     table: &[u8],
     number: u64,
     line: &[u8],
-    work: &mut [u8],
-    reading: &mut [u8],
-    tokens: &mut [u8],
+    buffers: &mut Buffers,
     out: &mut [u8],
     at: usize,
 ) -> usize
-    requires buffers { Buffers work.old reading.old tokens.old }
-    requires room { at + 32768 ≤ length out.old }
+    requires { at + 32768 ≤ length out.old }
     ensures bound { result ≤ at + 32768 }
     ensures report { Wrote out.old out.new at result
         (line_report table.now (last_record table.now) number line.now) }
@@ -64,9 +89,9 @@ fn end_line(
         start,
         number,
         line,
-        work,
-        reading,
-        tokens,
+        &mut buffers.work,
+        &mut buffers.reading,
+        &mut buffers.tokens,
         &mut out[at..],
     );
     at + size
@@ -77,66 +102,29 @@ fn end_line(
 pub fn take_block(
     table: &[u8],
     block: &[u8],
-    kept: usize,
-    ended: u64,
-    line: &mut [u8],
-    work: &mut [u8],
-    reading: &mut [u8],
-    tokens: &mut [u8],
+    line: &mut OpenLine,
+    buffers: &mut Buffers,
     out: &mut [u8],
 ) -> Progress
-    requires buffers { Buffers work.old reading.old tokens.old }
-    requires line { length line.old ≡ 256 }
-    requires kept { kept ≤ 256 }
-    requires numbers { ended + length block.now < 18446744073709551615 }
-    ensures kept { result.kept ≤ 256 }
-    ensures took { Took table.now (take kept line.old) ended block.now out.old
-        (take result.kept line.new) result.ended result.taken result.written out.new }
+    requires { line.old.ended + length block.now < 18446744073709551615 }
+    ensures { Took table.now (take line.old.kept line.old.bytes) line.old.ended block.now out.old
+        (take line.new.kept line.new.bytes) line.new.ended result.taken result.written out.new }
 {
     let mut at = 0;
     let mut written = 0;
-    let mut held = kept;
-    let mut count = ended;
-    while at < block.len() {
-        if out.len() - written < 32768 {
-            return Progress {
-                taken: at,
-                written,
-                kept: held,
-                ended: count,
-            };
-        }
+    while at < block.len() && 32768 <= out.len() - written {
         let end = lines::line_end(block, at);
-        held = lines::keep(line, held, &block[at..end]);
-        if end == block.len() {
-            return Progress {
-                taken: end,
-                written,
-                kept: held,
-                ended: count,
-            };
+        line.kept = lines::keep(&mut line.bytes, line.kept, &block[at..end]);
+        at = end;
+        if end < block.len() {
+            let number = lines::line_number(line.ended);
+            written = end_line(table, number, line.kept(), buffers, out, written);
+            line.kept = 0;
+            line.ended += 1;
+            at += 1;
         }
-        let number = lines::line_number(count);
-        written = end_line(
-            table,
-            number,
-            &line[..held],
-            work,
-            reading,
-            tokens,
-            out,
-            written,
-        );
-        count += 1;
-        held = 0;
-        at = end + 1;
     }
-    Progress {
-        taken: at,
-        written,
-        kept: held,
-        ended: count,
-    }
+    Progress { taken: at, written }
 }
 
 // Writes the report of the last line, of which the kept bytes are given, to the front of the output buffer and returns its length: 0 where
@@ -145,12 +133,9 @@ pub fn take_end(
     table: &[u8],
     line: &[u8],
     ended: u64,
-    work: &mut [u8],
-    reading: &mut [u8],
-    tokens: &mut [u8],
+    buffers: &mut Buffers,
     out: &mut [u8],
 ) -> usize
-    requires buffers { Buffers work.old reading.old tokens.old }
     requires room { 32768 ≤ length out.old }
     requires number { ended < 18446744073709551615 }
     ensures bound { result ≤ 32768 }
@@ -158,9 +143,9 @@ pub fn take_end(
     ensures buffer { out.new
         ≡ last_report table.now line.now ended ++ drop result out.old }
 {
-    if line.len() == 0 {
+    if line.is_empty() {
         return 0;
     }
     let number = lines::line_number(ended);
-    end_line(table, number, line, work, reading, tokens, out, 0)
+    end_line(table, number, line, buffers, out, 0)
 }

@@ -1,16 +1,15 @@
--- `lines::line_end` meets its contract. The loop's invariant: no byte 10 was passed; the measure is what is left of the block. Assumes nothing.
-use native.Mathlib.Omega.{arith}
-use borrow.Author.Count.{below_more}
+-- `lines::line_end` meets its contract: what `position` finds behind the start is the first byte 10. Assumes nothing.
+use Rattle.std.proofs.Common.{◌≡◌, rules, tests}
+use Rattle.std.proofs.lemmas.Iterator.{IsFirst-from_position, YieldsList-from_slice}
+use Rattle.lines.proofs.Ends.{next_found, next_none}
 use Rattle.lines.proofs.line_end.Goals as goal
 
-pub loop-i-init : goal.loop-i-init
-loop-i-init c = (omega arith, omega (arith, c.requires), λ j l g e. absurd (omega arith))
+pub returns-in-Some : goal.returns-in-Some
+returns-in-Some c =
+    next_found c.args.block.now c.args.from c.requires c.in-Some.passed
+    (IsFirst-from_position _ _ _ (λ b. b ≡ 10) (λ b. b ≡ 10 → ⊥) c.in-Some.ensures.ran (YieldsList-from_slice _ c.iter.ensures.rest) (λ x q k. search (rules, tests)) (λ x q k. search (rules, tests)))
 
-pub returns-then-block-i-eq10 : goal.returns-then-block-i-eq10
-returns-then-block-i-eq10 c = record { behind = omega arith; inside = omega arith; passed = λ j g l. c.loop-i.invariant.2 j l g; found = λ l. c.if-block-i-eq10.true }
-
-pub loop-i-preserved : goal.loop-i-preserved
-loop-i-preserved c = (omega arith, omega arith, below_more _ _ c.loop-i.invariant.2 (λ g. c.if-block-i-eq10.false))
-
-pub returns : goal.returns
-returns c = record { behind = omega arith; inside = omega arith; passed = λ j g l. c.loop-i.invariant.2 j l g; found = λ l. absurd (omega arith) }
+pub returns-in-None : goal.returns-in-None
+returns-in-None c =
+    next_none c.args.block.now c.args.from c.requires
+    (IsFirst-from_position _ _ _ (λ b. b ≡ 10) (λ b. b ≡ 10 → ⊥) c.in-None.ensures.ran (YieldsList-from_slice _ c.iter.ensures.rest) (λ x q k. search (rules, tests)) (λ x q k. search (rules, tests)))

@@ -8,9 +8,6 @@ use Rattle.printing.proofs.+put_decimal.Goals as goal
 pub put_byte-requires : goal.put_byte-requires
 put_byte-requires t c = omega (arith, c.requires, length-one c.args.n c.if-n-lt10.true)
 
-pub shape_of-out-then-n-lt10 : goal.shape_of-out-then-n-lt10
-shape_of-out-then-n-lt10 t c = wrote-length c.put_byte.ensures
-
 pub returns-then-n-lt10 : goal.returns-then-n-lt10
 returns-then-n-lt10 t c = wrote_as c.put_byte.ensures (sym (decimal_digit c.args.n c.if-n-lt10.true))
 
@@ -21,9 +18,6 @@ put_decimal-next-requires t c =
 pub put_byte-requires-2 : goal.put_byte-requires-2
 put_byte-requires-2 t c =
     omega (arith, c.requires, wrote-length c.put_decimal-next.ensures, c.put_decimal-next.ensures.moved, length_more c.args.n c.if-n-lt10.false (omega (arith, c.ranges.n)))
-
-pub shape_of-out : goal.shape_of-out
-shape_of-out t c = wrote-length (wrote_then c.put_decimal-next.ensures c.put_byte-2.ensures)
 
 pub returns : goal.returns
 returns t c = wrote_as (wrote_then c.put_decimal-next.ensures c.put_byte-2.ensures) (sym (decimal-digits c.args.n c.if-n-lt10.false (omega (arith, c.ranges.n))))

@@ -1,12 +1,9 @@
--- The buffers keep their sizes, and the lines ended so far and the bytes left add up to no more than the bytes at the start. Assumes nothing.
+-- The lines ended so far and the bytes left are no more than the bytes at the start. Assumes nothing.
 use Rattle.std.proofs.Common.{◌≡◌, ◌+◌, ◌≤◌, length}
-use Rattle.tracecut.proofs.Moving.{Ready}
 use Rattle.tracecut.proofs.run.Given as goal
 
 abbrev pub invariant-loop-left : goal.invariant-loop-left
-invariant-loop-left l =
-    (length l.block ≡ 65536) × Ready l.line l.work l.reading l.tokens l.out l.state.kept × (length l.out ≡ 65536)
-    × (l.state.ended + l.left ≤ 18446744073709551614)
+invariant-loop-left l = (length l.block ≡ 65536) × (length l.out ≡ 65536) × (l.line.ended + l.left ≤ 18446744073709551614)
 
 abbrev pub decreases-loop-left : goal.decreases-loop-left
 decreases-loop-left l = l.left

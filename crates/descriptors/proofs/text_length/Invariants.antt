@@ -1,9 +1,0 @@
--- The position is inside the text; the measure is the position. Assumes nothing.
-use Rattle.std.proofs.Common.{◌≤◌, length}
-use Rattle.descriptors.proofs.text_length.Given as goal
-
-abbrev pub invariant-loop-i : goal.invariant-loop-i
-invariant-loop-i l = l.i ≤ length l.text
-
-abbrev pub decreases-loop-i : goal.decreases-loop-i
-decreases-loop-i l = l.i

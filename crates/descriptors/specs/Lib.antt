@@ -1,2 +1,0 @@
--- What a read answers, and what reading to the end does.
-pub mod Reads
