@@ -3,6 +3,7 @@
 use Prim.Native.Nat.{ℕ, zero, suc}
 use mathlib.Core.Path.{◌≡◌, refl, ◌∙◌, ap}
 use mathlib.Core.List.{List, [], ◌∷◌, ◌++◌, append-nil, append_assoc}
+use Rattle.std.specs.Prelude.{Option}
 use lib.ListN.{length, drop}
 use lib.Seq.{drop-append_seam}
 use Rattle.notation.specs.declared.Word.{Word}
@@ -21,7 +22,7 @@ run-skip (c ∷ s) (suc k) st = run-skip s k st
 
 -- a word in front of a text is the step taken
 word-run :
-    {z : List ℕ} {w : Word} → Spells z w → (rest : List ℕ) (st : State)
+    {z : List ℕ} {w : Option Word} → Spells z w → (rest : List ℕ) (st : State)
     → run (z ++ rest) 0 st ≡ and_then (step w st) (length (z ++ rest)) (λ next. run rest 0 next)
 word-run {z} {w} p rest st =
     let k : (next : State) → run (p.tail ++ rest) (later w) next ≡ run rest 0 next =

@@ -8,6 +8,7 @@ use mathlib.Core.List.{List, [], ◌∷◌, ◌++◌, append-nil, append_assoc}
 use mathlib.Core.Logic.{◌↔◌}
 use borrow.Author.Tests.{eqb-true}
 use lib.Dec.{eqb}
+use Rattle.std.specs.Prelude.{Option}
 use lib.ListN.{length, take}
 use lib.Seq.{take-nil}
 use Rattle.notation.specs.declared.Word.{Word}
@@ -99,7 +100,7 @@ tagged-keeps {s} {y = y} {z} {fs} {l} {r} {t} {n} o a b d k e = go (eqb (tag_of 
     go false f = tt
 
 -- each word keeps it
-pub step_keeps : {c : ℕ} {s z : List ℕ} {w : Word} {st : State} → Read c s w → Kept z st → Keeps (z ++ c ∷ take (later w) s) (step w st)
+pub step_keeps : {c : ℕ} {s z : List ℕ} {w : Option Word} {st : State} → Read c s w → Kept z st → Keeps (z ++ c ∷ take (later w) s) (step w st)
 step_keeps (read_letter n f) (kept o a b d e) = kept o a (row-holds b d) (holds_for_some (item-letter f)) (rw e (simp append_assoc))
 step_keeps {c} {z = z} (read_open n) (kept o a b d e) =
     kept (outer-more {s = z ++ c ∷ []} o a (row-holds b d) (rw (e, n) (simp append_assoc))) holds_none holds_none holds_none (simp append-nil)

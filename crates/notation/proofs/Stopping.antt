@@ -42,7 +42,7 @@ kept-begins {s} (kept {v} {w} {x} o a b holds_none e) =
 kept-begins (kept o a b (holds_for_some d) e) = let k = closed_all o a b d in rw e k
 
 -- the end of a text leaves no byte
-ended-none : (st : State) (n : ℕ) → ended st ≡ stuck n → n ≡ 0
+pub ended-none : (st : State) (n : ℕ) → ended st ≡ stuck n → n ≡ 0
 ended-none (state [] l r none) n e = cc
 ended-none (state [] l r (some t)) n e = go (all_with l r (some t)) e
   where

@@ -1,32 +1,32 @@
 -- Which tree a text stands for, if any, as a computation: the text is taken word by word, and each word shifts or reduces. That it finds a tree
 -- just where the grammar does, and that one, is proved.
 -- Assumes nothing.
-use Rattle.std.specs.Prelude.{ℕ, zero, suc, ◌+◌, ◌*◌, ◌-◌, Bool, cond, ◌&&◌, List, [], ◌∷◌, leb, ltb, eqb, length, get_or}
+use Rattle.std.specs.Prelude.{ℕ, zero, suc, ◌+◌, ◌*◌, ◌-◌, Bool, cond, ◌&&◌, List, [], ◌∷◌, Option, Some, None, leb, ltb, eqb, length, get_or}
 use Rattle.notation.specs.declared.Word.{Word}
-use Rattle.notation.specs.declared.Word.TheVariants.{Letter, Open, Close, Star, Bar, Tag, Bad}
+use Rattle.notation.specs.declared.Word.TheVariants.{Letter, Open, Close, Star, Bar, Tag}
 use Rattle.notation.specs.Trees.{Tree, unit, range, alt, cat, many, tag_of, with_tag}
 use Rattle.notation.specs.Grammar.{bar, asterisk, opening, closing, bracket, bracket_end, backslash, hash, hyphen}
 
--- The words. A Letter has its bounds and how many bytes it takes beyond the first; the other words' are known.
-abbrev pub later : Word → ℕ
-later (Letter p q n) = n
-later Open = 0
-later Close = 0
-later Star = 0
-later Bar = 0
-later (Tag n) = 3
-later Bad = 0
+-- The words, and None where there is none. A Letter has its bounds and how many bytes it takes beyond the first; the other words' are known.
+abbrev pub later : Option Word → ℕ
+later (Some (Letter p q n)) = n
+later (Some Open) = 0
+later (Some Close) = 0
+later (Some Star) = 0
+later (Some Bar) = 0
+later (Some (Tag n)) = 3
+later None = 0
 
 -- behind a backslash: the next byte, plain
-abbrev pub escaped_word : List ℕ → Word
-escaped_word s = cond (ltb 0 (length s)) (Letter (get_or s 0 0) (get_or s 0 0) 1) Bad
+abbrev pub escaped_word : List ℕ → Option Word
+escaped_word s = cond (ltb 0 (length s)) (Some (Letter (get_or s 0 0) (get_or s 0 0) 1)) None
 
 -- behind [: p-q] with p ≤ q
 abbrev pub is_range : List ℕ → Bool
 is_range s = ltb 3 (length s) && (eqb (get_or s 1 0) hyphen && (eqb (get_or s 3 0) bracket_end && leb (get_or s 0 0) (get_or s 2 0)))
 
-abbrev pub range_word : List ℕ → Word
-range_word s = cond (is_range s) (Letter (get_or s 0 0) (get_or s 2 0) 4) Bad
+abbrev pub range_word : List ℕ → Option Word
+range_word s = cond (is_range s) (Some (Letter (get_or s 0 0) (get_or s 2 0) 4)) None
 
 -- behind #: three digits of a number from 1 to 255
 abbrev pub is_digit : ℕ → Bool
@@ -40,17 +40,18 @@ is_tag s =
     ltb 2 (length s)
     && (is_digit (get_or s 0 0) && (is_digit (get_or s 1 0) && (is_digit (get_or s 2 0) && (leb 1 (numeral s) && leb (numeral s) 255))))
 
-abbrev pub tag_word : List ℕ → Word
-tag_word s = cond (is_tag s) (Tag (numeral s)) Bad
+abbrev pub tag_word : List ℕ → Option Word
+tag_word s = cond (is_tag s) (Some (Tag (numeral s))) None
 
 -- any other byte
-abbrev pub byte_word : ℕ → Word
+abbrev pub byte_word : ℕ → Option Word
 byte_word c =
-    cond (eqb c bar) Bar
-    (cond (eqb c asterisk) Star (cond (eqb c opening) Open (cond (eqb c closing) Close (cond (eqb c bracket_end) Bad (Letter c c 0)))))
+    cond (eqb c bar) (Some Bar)
+    (cond (eqb c asterisk) (Some Star)
+    (cond (eqb c opening) (Some Open) (cond (eqb c closing) (Some Close) (cond (eqb c bracket_end) None (Some (Letter c c 0))))))
 
 -- the word of a byte and those behind it
-unfoldable pub word_at : ℕ → List ℕ → Word
+unfoldable pub word_at : ℕ → List ℕ → Option Word
 word_at c s =
     cond (eqb c backslash) (escaped_word s) (cond (eqb c bracket) (range_word s) (cond (eqb c hash) (tag_word s) (byte_word c)))
 
@@ -109,14 +110,14 @@ abbrev pub parted : List Frame → Held → Held → Held → Stepped
 parted fs l r none = stop
 parted fs l r (some t) = on (state fs (all_with l r (some t)) none none)
 
-abbrev pub step : Word → State → Stepped
-step (Letter p q n) (state fs l r i) = on (state fs l (row_with r i) (some (range p q 0)))
-step Open (state fs l r i) = on (state (frame l (row_with r i) ∷ fs) none none none)
-step Close (state fs l r i) = closed_in fs l r i
-step Star (state fs l r i) = starred fs l r i
-step Bar (state fs l r i) = parted fs l r i
-step (Tag n) (state fs l r i) = tagged fs l r i n
-step Bad (state fs l r i) = stop
+abbrev pub step : Option Word → State → Stepped
+step (Some (Letter p q n)) (state fs l r i) = on (state fs l (row_with r i) (some (range p q 0)))
+step (Some Open) (state fs l r i) = on (state (frame l (row_with r i) ∷ fs) none none none)
+step (Some Close) (state fs l r i) = closed_in fs l r i
+step (Some Star) (state fs l r i) = starred fs l r i
+step (Some Bar) (state fs l r i) = parted fs l r i
+step (Some (Tag n)) (state fs l r i) = tagged fs l r i n
+step None (state fs l r i) = stop
 
 -- what a text comes to: its tree; or the number of bytes from the first word on that cannot stand where it does, 0 where the text ends too early
 pub data Outcome : Type 0 where

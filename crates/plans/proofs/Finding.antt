@@ -4,30 +4,29 @@ use Prim.Native.Nat.{ℕ, ◌+◌, ◌*◌, ◌≤◌, ◌<◌}
 use native.Mathlib.Omega.{arith}
 use mathlib.Core.Path.{◌≡◌, refl, sym, ap, ◌∙◌}
 use mathlib.Core.Logic.{◌⊎◌, inl, inr, ⊎_elim}
-use mathlib.Core.Bool.{Bool, true, false, true≢false, ◌&&◌, ◌||◌}
+use mathlib.Core.Bool.{Bool, true, false, true≢false, not, ◌&&◌, ◌||◌}
 use mathlib.Core.List.{List, []}
 use lib.Dec.{leb, eqb}
-use lib.Bits.{bit_or}
 use lib.ListN.{length, get_or, set, length-set}
 use lib.Seq.{get_or-set_same, get_or-set_other}
+use mir.Val.{bool_byte}
 use borrow.Author.Tests.{leb-true, eqb-true, eq-eqb, ne_eqb}
 use Rattle.posix.specs.Spells.{spells}
 use Rattle.posix.proofs.Spells.{either, each}
-use Rattle.table.specs.Records.{count, kind_at, a_at, b_at, is_or, is_seq, is_letter}
+use Rattle.table.specs.Records.{count, kind_at, a_at, b_at, is_or, is_seq}
 use Rattle.table.specs.Faults.{Passes, names_a, names_b, names}
+use Rattle.table.specs.Letters.{LetterKind}
 use Rattle.table.specs.Expression.{exp_of}
 use Rattle.table.proofs.Laws.{exp-nothing, exp-empty, exp-letter, exp-or, exp-seq, exp-star}
-use Rattle.table.proofs.Passing.{letter_at, two-names, star-names, kind-nothing, a-below, b-below, star-a-below, child-once, or-true-left, or_true_right}
-use Rattle.marks.specs.Marks.{marked, MarkedToo}
+use Rattle.table.proofs.Passing.{letter_at, two-names, star-names, a-below, b-below, star-a-below, child-once, or-true-left, or_true_right}
+use Rattle.marks.specs.Marks.{marked}
 use Rattle.rows.specs.Layout.{is_set}
 use Rattle.rows.proofs.Cuts.{below_or}
-use Rattle.rows.proofs.Bytes.{set-byte, clear-byte, set-or}
+use Rattle.rows.proofs.Bytes.{set-byte, clear-byte, test-byte}
+use Rattle.plans.specs.declared.Bounds.{Bounds}
 use Rattle.plans.specs.Plans.{in_either, in_bounds, is_plain, repeat_at, wakes, Parents, MarkedIn, Waking, Listed, EmptyTold}
 
 -- the records that spell the empty line, record by record
-pub empty-none : (t w : List ℕ) → EmptyTold t 0 w
-empty-none t w = record { right = λ j l. absurd (omega arith) }
-
 pub empty-more : (t : List ℕ) (k v : ℕ) (w : List ℕ) → EmptyTold t k w → k < length w → is_set v ≡ spells (exp_of t k) []
     → EmptyTold t (k + 1) (set w k v)
 empty-more t k v w p l e =
@@ -39,71 +38,52 @@ empty-more t k v w p l e =
           (below_or j k);
     }
 
-one_set : is_set 1 ≡ true
+-- a test stored in a byte
+pub set-test : (x : Bool) → is_set (bool_byte x) ≡ x
 unfolding is_set
-one_set = refl
+set-test true = refl
+set-test false = refl
 
 -- whether a record spells the empty line, by its kind
-module _
-    (t : List ℕ)
-    (p : Passes t)
-    (k kind a b : ℕ)
-    (l : k < count t)
-    (ek : kind ≡ kind_at t k)
-    (ea : a ≡ a_at t k)
-    (eb : b ≡ b_at t k)
-    (w : List ℕ)
-    (q : EmptyTold t k w)
-  where
-    pub empty-spelled : (kind ≡ 1) ⊎ (kind ≡ 5) → is_set 1 ≡ spells (exp_of t k) []
-    empty-spelled (inl e) = rw (exp-empty t k (sym ek ∙ e)) one_set
-    empty-spelled (inr e) = rw (exp-star t k (sym ek ∙ e) (star-a-below t p k l (sym ek ∙ e))) one_set
+module _ (t : List ℕ) (p : Passes t) (k : ℕ) (l : k < count t) where
+  pub empty-nothing : kind_at t k ≡ 0 → false ≡ spells (exp_of t k) []
+  empty-nothing e = rw (exp-nothing t k e)
 
-    module _ (e : (kind ≡ 3) ⊎ (kind ≡ 4)) where
-      two : (kind_at t k ≡ 3) ⊎ (kind_at t k ≡ 4)
-      two = ⊎_elim (λ z. inl (sym ek ∙ z)) (λ z. inr (sym ek ∙ z)) e
+  pub empty-empty : kind_at t k ≡ 1 → true ≡ spells (exp_of t k) []
+  empty-empty e = rw (exp-empty t k e)
 
-      pub first_below : a < k
-      first_below = omega (arith, a-below t p k l two)
+  pub empty-letter : LetterKind (kind_at t k) → false ≡ spells (exp_of t k) []
+  empty-letter e = rw (exp-letter t k (letter_at t k refl e))
 
-      pub second_below : b < k
-      second_below = omega (arith, b-below t p k l two)
+  pub empty-star : kind_at t k ≡ 5 → true ≡ spells (exp_of t k) []
+  empty-star e = rw (exp-star t k e (star-a-below t p k l e))
 
-    or-told : kind ≡ 3 → spells (exp_of t k) [] ≡ (is_set (get_or w a 0) || is_set (get_or w b 0))
+  module _ (a b : ℕ) (ea : a ≡ a_at t k) (eb : b ≡ b_at t k) (w : List ℕ) (q : EmptyTold t k w) where
+    or-told : kind_at t k ≡ 3 → spells (exp_of t k) [] ≡ (is_set (get_or w a 0) || is_set (get_or w b 0))
     or-told e =
-        let la : a < k = first_below (inl e) in
-        let lb : b < k = second_below (inl e) in
-        let rule = exp-or t k (sym ek ∙ e) (omega arith) (omega arith) in
-        rw (rule, ← ea, ← eb, q.right a la, q.right b lb)
+        let la : a_at t k < k = a-below t p k l (inl e) in
+        let lb : b_at t k < k = b-below t p k l (inl e) in
+        rw (exp-or t k e la lb, ea, eb, q.right (a_at t k) la, q.right (b_at t k) lb)
 
-    seq-told : kind ≡ 4 → spells (exp_of t k) [] ≡ (is_set (get_or w a 0) && is_set (get_or w b 0))
+    seq-told : kind_at t k ≡ 4 → spells (exp_of t k) [] ≡ (is_set (get_or w a 0) && is_set (get_or w b 0))
     seq-told e =
-        let la : a < k = first_below (inr e) in
-        let lb : b < k = second_below (inr e) in
-        let rule = exp-seq t k (sym ek ∙ e) (omega arith) (omega arith) in
-        rw (rule, ← ea, ← eb, q.right a la, q.right b lb)
+        let la : a_at t k < k = a-below t p k l (inr e) in
+        let lb : b_at t k < k = b-below t p k l (inr e) in
+        rw (exp-seq t k e la lb, ea, eb, q.right (a_at t k) la, q.right (b_at t k) lb)
 
-    pub empty-or : kind ≡ 3 → is_set (bit_or (get_or w a 0) (get_or w b 0)) ≡ spells (exp_of t k) []
-    empty-or e = set-or (get_or w a 0) (get_or w b 0) ∙ sym (or-told e)
+    pub or-by-first : kind_at t k ≡ 3 → ¬ (get_or w a 0 ≡ 0) → not (eqb (get_or w a 0) 0) ≡ spells (exp_of t k) []
+    or-by-first e n = rw (or-told e, test-byte (get_or w a 0), set-byte (get_or w a 0) n)
 
-    pub empty-seq-not : kind ≡ 4 → get_or w a 0 ≡ 0 → is_set 0 ≡ spells (exp_of t k) []
-    empty-seq-not e z = sym (seq-told e ∙ rw (clear-byte (get_or w a 0) z, clear-byte 0 refl))
+    pub or-by-second : kind_at t k ≡ 3 → get_or w a 0 ≡ 0 → not (eqb (get_or w b 0) 0) ≡ spells (exp_of t k) []
+    or-by-second e z = rw (or-told e, test-byte (get_or w b 0), clear-byte (get_or w a 0) z)
 
-    pub empty-seq : kind ≡ 4 → ¬ (get_or w a 0 ≡ 0) → is_set (get_or w b 0) ≡ spells (exp_of t k) []
-    empty-seq e z = sym (seq-told e ∙ rw (set-byte (get_or w a 0) z))
+    pub seq-by-second : kind_at t k ≡ 4 → ¬ (get_or w a 0 ≡ 0) → not (eqb (get_or w b 0) 0) ≡ spells (exp_of t k) []
+    seq-by-second e n = rw (seq-told e, test-byte (get_or w b 0), set-byte (get_or w a 0) n)
 
-    pub empty-not : ¬ (kind ≡ 1) → ¬ (kind ≡ 3) → ¬ (kind ≡ 4) → ¬ (kind ≡ 5) → is_set 0 ≡ spells (exp_of t k) []
-    empty-not n1 n3 n4 n5 = clear-byte 0 refl ∙ sym (go (is_letter t k) refl)
-      where
-        go : (x : Bool) → is_letter t k ≡ x → spells (exp_of t k) [] ≡ false
-        go true e = rw (exp-letter t k e)
-        go false e =
-            rw (exp-nothing t k (kind-nothing t p k l ek n1 (λ z. true≢false (sym (letter_at t k ek z) ∙ e)) n3 n4 n5))
+    pub seq-by-first : kind_at t k ≡ 4 → get_or w a 0 ≡ 0 → not (eqb (get_or w a 0) 0) ≡ spells (exp_of t k) []
+    seq-by-first e z = rw (seq-told e, test-byte (get_or w a 0), clear-byte (get_or w a 0) z)
 
 -- the records that children may matter to
-pub parents-none : (t bounds up : List ℕ) → length up ≡ 256 → Parents t bounds 0 up
-parents-none t bounds up e = record { size = e; right = λ i j l n h. absurd (omega arith) }
-
 module _ (t : List ℕ) (k i : ℕ) where
   -- a record that a part of record i may matter to names it
   wakes-names : wakes t i k ≡ true → names t k i ≡ true
@@ -123,9 +103,9 @@ module _ (t : List ℕ) (k i : ℕ) where
           (λ (x : (is_seq t k && spells (exp_of t (a_at t k)) []) ≡ true). or_true_right (is_or t k) _ (each (is_seq t k) _ x).0)
           (either (is_or t k) _ h)
 
-module _ (t bounds : List ℕ) (p : Passes t) (k : ℕ) (l : k < count t) (up : List ℕ) (q : Parents t bounds k up) where
+module _ (t : List ℕ) (bounds : Bounds) (p : Passes t) (k : ℕ) (l : k < count t) (up : List ℕ) (q : Parents t bounds k up) where
   -- a plain record needs no part of its children
-  pub plain-parent : get_or bounds (1280 + k) 0 ≡ 1 → Parents t bounds (k + 1) up
+  pub plain-parent : get_or bounds.plain k false ≡ true → Parents t bounds (k + 1) up
   unfolding is_plain
   plain-parent e =
       record {
@@ -135,8 +115,7 @@ module _ (t bounds : List ℕ) (p : Passes t) (k : ℕ) (l : k < count t) (up : 
             (λ (z : j < k). q.right i j z n y)
             (λ (z : k ≤ j).
             let same : j ≡ k = omega arith in
-            let m : eqb (get_or bounds (1280 + k) 0) 1 ≡ false = rw same at n in
-            absurd (true≢false (sym (eq-eqb (get_or bounds (1280 + k) 0) 1 e) ∙ m)))
+            absurd (true≢false (sym e ∙ rw same at n)))
             (below_or j k);
       }
 
@@ -247,25 +226,6 @@ module _ (t bounds : List ℕ) (p : Passes t) (k : ℕ) (l : k < count t) (up : 
               ne_eqb (kind_at t k) 5 (λ z. n5 (ek ∙ z)),
             )
 
--- marking a record in the sets of some bytes
-pub marked-in-none : (k low : ℕ) (sets : List ℕ) → MarkedIn k low low sets sets
-marked-in-none k low sets = record { size = refl; kept = λ j h. h; new = λ c x y. absurd (omega arith) }
-
-pub marked-in-more : (k low c : ℕ) (s s' s'' : List ℕ) → MarkedIn k low c s s' → MarkedToo (256 * c + k) s' s'' → MarkedIn k low (c + 1) s s''
-marked-in-more k low c s s' s'' p q =
-    record {
-      size = q.size ∙ p.size;
-      kept = λ j h. q.kept j (p.kept j h);
-      new = λ i x y.
-          ⊎_elim
-          (λ (z : i < c). q.kept (256 * i + k) (p.new i x z))
-          (λ (z : c ≤ i). let same : i ≡ c = omega arith in rw same (q.new (256 * c + k) refl))
-          (below_or i c);
-    }
-
-pub marked-in-end : (k low high c : ℕ) (s s' : List ℕ) → MarkedIn k low c s s' → high ≤ c → MarkedIn k low high s s'
-marked-in-end k low high c s s' p l = record { size = p.size; kept = p.kept; new = λ i x y. p.new i x (omega arith) }
-
 -- a byte within one of two ranges
 in-either-true : (l h l2 h2 c : ℕ) → in_either l h l2 h2 c ≡ true → ((l ≤ c) × (c ≤ h)) ⊎ ((l2 ≤ c) × (c ≤ h2))
 in-either-true l h l2 h2 c e =
@@ -275,17 +235,15 @@ in-either-true l h l2 h2 c e =
     (either (leb l c && leb c h) (leb l2 c && leb c h2) e)
 
 -- the sets of the bytes of the records' ranges
-pub waking-none : (bounds up sets : List ℕ) → length sets ≡ 1024 → Waking bounds up 0 sets
-waking-none bounds up sets e = record { size = e; right = λ i c l x h. absurd (omega arith) }
-
 module _
-    (bounds up : List ℕ)
+    (bounds : Bounds)
+    (up : List ℕ)
     (k parent low high low2 high2 : ℕ)
     (eu : parent ≡ get_or up k 0)
-    (el : low ≡ get_or bounds (0 + k) 0)
-    (eh : high ≡ get_or bounds (256 + k) 0)
-    (el2 : low2 ≡ get_or bounds (512 + k) 0)
-    (eh2 : high2 ≡ get_or bounds (768 + k) 0)
+    (el : low ≡ get_or bounds.low k 0)
+    (eh : high ≡ get_or bounds.high k 0)
+    (el2 : low2 ≡ get_or bounds.low2 k 0)
+    (eh2 : high2 ≡ get_or bounds.high2 k 0)
     (s s' s'' : List ℕ)
     (p : Waking bounds up k s)
     (q : MarkedIn parent low (high + 1) s s')
@@ -294,13 +252,11 @@ module _
     both-marked : (c : ℕ) → in_bounds bounds k c ≡ true → marked s'' (256 * c + parent) ≡ true
     unfolding in_bounds
     both-marked c h =
-        let own : 0 + k ≡ k = omega arith in
-        let first : low ≡ get_or bounds k 0 = el ∙ ap (λ i. get_or bounds i 0) own in
         ⊎_elim
-        (λ (y : (get_or bounds k 0 ≤ c) × (c ≤ get_or bounds (256 + k) 0)).
+        (λ (y : (get_or bounds.low k 0 ≤ c) × (c ≤ get_or bounds.high k 0)).
         r.kept (256 * c + parent) (q.new c (omega arith) (omega arith)))
-        (λ (y : (get_or bounds (512 + k) 0 ≤ c) × (c ≤ get_or bounds (768 + k) 0)). r.new c (omega arith) (omega arith))
-        (in-either-true (get_or bounds k 0) (get_or bounds (256 + k) 0) (get_or bounds (512 + k) 0) (get_or bounds (768 + k) 0) c h)
+        (λ (y : (get_or bounds.low2 k 0 ≤ c) × (c ≤ get_or bounds.high2 k 0)). r.new c (omega arith) (omega arith))
+        (in-either-true (get_or bounds.low k 0) (get_or bounds.high k 0) (get_or bounds.low2 k 0) (get_or bounds.high2 k 0) c h)
 
     pub ranges-wake : Waking bounds up (k + 1) s''
     ranges-wake =
@@ -315,12 +271,8 @@ module _
         }
 
 -- the records that repeat
-pub listed-none : (bounds runs : List ℕ) → length runs ≡ 256 → Listed bounds 0 runs 0
-listed-none bounds runs e =
-    record { size = e; few = omega arith; only = λ i l. absurd (omega arith); every = λ j l h. absurd (omega arith) }
-
-module _ (bounds : List ℕ) (k : ℕ) (runs : List ℕ) (n : ℕ) (p : Listed bounds k runs n) where
-  pub listed_same : ¬ (get_or bounds (1024 + k) 0 ≡ 255) → Listed bounds (k + 1) runs n
+module _ (bounds : Bounds) (k : ℕ) (runs : List ℕ) (n : ℕ) (p : Listed bounds k runs n) where
+  pub listed_same : ¬ (get_or bounds.repeat k 0 ≡ 255) → Listed bounds (k + 1) runs n
   unfolding repeat_at
   listed_same n255 =
       record {
@@ -333,23 +285,3 @@ module _ (bounds : List ℕ) (k : ℕ) (runs : List ℕ) (n : ℕ) (p : Listed b
             (λ (z : k ≤ j). let same : j ≡ k = omega arith in absurd (n255 (rw same at h)))
             (below_or j k);
       }
-
-  pub listed_more : k < 256 → Listed bounds (k + 1) (set runs n k) (n + 1)
-  listed_more low =
-      record {
-        size = simp length-set p.size;
-        few = omega (arith, p.few);
-        only = λ i l.
-            ⊎_elim (λ (z : i < n). rw (old i z) (omega (arith, p.only i z))) (λ (z : n ≤ i). let same : i ≡ n = omega arith in rw (same, last) (omega arith)) (below_or i n);
-        every = λ j l h.
-            ⊎_elim
-            (λ (z : j < k). let f = p.every j z h in (f.0, omega (arith, f.1), old f.0 f.1 ∙ f.2))
-            (λ (z : k ≤ j). let same : j ≡ k = omega arith in (n, omega arith, last ∙ sym same))
-            (below_or j k);
-      }
-    where
-      last : get_or (set runs n k) n 0 ≡ k
-      last = get_or-set_same runs n k 0 (omega (arith, p.size, p.few))
-
-      old : (i : ℕ) → i < n → get_or (set runs n k) i 0 ≡ get_or runs i 0
-      old i z = get_or-set_other runs n i k 0 (λ q. omega arith)

@@ -1,20 +1,20 @@
 -- Plain records: what the expressions spell, what each store into the columns leaves, and one law for each way out of a function that finds
 -- them.
 -- Assumes nothing.
-use Prim.Native.Nat.{ℕ, zero, suc, ◌+◌, ◌-◌, ◌*◌, ◌≤◌, ◌<◌}
+use Prim.Native.Nat.{ℕ, zero, suc, ◌+◌, ◌-◌, ◌≤◌, ◌<◌}
 use native.Mathlib.Omega.{arith}
 use mathlib.Core.Path.{◌≡◌, refl, sym, ap, ◌∙◌}
-use mathlib.Core.Logic.{◌⊎◌, inl, inr, ⊎_elim}
+use mathlib.Core.Logic.{inl, inr, ⊎_elim}
 use mathlib.Core.Bool.{Bool, true, false, true≢false, cond, ◌&&◌, ◌||◌}
 use mathlib.Core.List.{List, [], ◌∷◌}
 use lib.Dec.{leb, ltb, eqb}
-use lib.ListN.{length, get_or, take, set, length-set}
+use lib.ListN.{length, get_or, take, length-set}
 use lib.Seq.{get_or-take, length-take-le, get_or-set_same, get_or-set_other}
-use borrow.Author.Tests.{leb-true, le-leb, lt-leb, ltb-true, lt-ltb, eqb-true, eq-eqb, ne_eqb}
+use borrow.Author.Tests.{leb-true, le-leb, lt-leb, lt-ltb, eqb-true, ne_eqb}
 use Rattle.posix.specs.Expressions.{ByteSet, within, outside, Exp, holds, letter, or, seq, star}
 use Rattle.posix.specs.Language.{Bytes}
 use Rattle.posix.specs.Spells.{spells}
-use Rattle.posix.proofs.Spells.{either, each, or-second}
+use Rattle.posix.proofs.Spells.{each}
 use Rattle.table.specs.Records.{count, kind_at, a_at, b_at, is_letter}
 use Rattle.table.specs.Faults.{Passes}
 use Rattle.table.specs.Expression.{exp_of}
@@ -23,7 +23,8 @@ use Rattle.table.proofs.Passing.{letter_at, letter-kinds, a-below, b-below, star
 use Rattle.rows.specs.Cuts.{some, cut_at}
 use Rattle.rows.proofs.Cuts.{same_truth, never_true, below_or, some-found, some_holds, cut-true, cut_holds}
 use Rattle.rows.proofs.Recurrences.{starts, rests, star-cuts, seq-cuts-apart}
-use Rattle.plans.specs.Plans.{lead, UnitRow, RunRow, in_either, in_bounds, repeat_at, is_plain, Settled, Bounded, Put, PutOther, Repeated}
+use Rattle.plans.specs.declared.Bounds.{Bounds}
+use Rattle.plans.specs.Plans.{lead, UnitRow, RunRow, in_either, Columns, in_bounds, repeat_at, is_plain, Settled, Bounded, Put, PutOther, Repeated}
 
 -- a letter
 letter-spells : (b : ByteSet) (u : List ℕ) → spells (letter b) u ≡ (eqb (length u) 1 && holds b (get_or u 0 0))
@@ -151,124 +152,64 @@ seq-all {r} {r2} {C} p q h (x ∷ u) bytes (suc e) one l =
 seq-run : {r r2 : Exp} {C : ℕ → Bool} → UnitRow r C → RunRow r2 C → spells r2 [] ≡ true → RunRow (seq r r2) C
 seq-run p q h = record { all = seq-all p q h }
 
--- the columns of record k that are stored, one by one
-module _ (b : List ℕ) (k low high low2 high2 repeat plain : ℕ) (size : length b ≡ 1536) (l : k < 256) where
-  abbrev b1 : List ℕ
-  b1 = set b k low
-
-  abbrev b2 : List ℕ
-  b2 = set b1 (256 + k) high
-
-  abbrev b3 : List ℕ
-  b3 = set b2 (512 + k) low2
-
-  abbrev b4 : List ℕ
-  b4 = set b3 (768 + k) high2
-
-  abbrev b5 : List ℕ
-  b5 = set b4 (1024 + k) repeat
-
-  abbrev b6 : List ℕ
-  b6 = set b5 (1280 + k) plain
-
-  own-low : get_or b6 k 0 ≡ low
-  own-low =
-      get_or-set_other b5 (1280 + k) k plain 0 (λ q. omega arith)
-      ∙ get_or-set_other b4 (1024 + k) k repeat 0 (λ q. omega arith)
-      ∙ get_or-set_other b3 (768 + k) k high2 0 (λ q. omega arith)
-      ∙ get_or-set_other b2 (512 + k) k low2 0 (λ q. omega arith)
-      ∙ get_or-set_other b1 (256 + k) k high 0 (λ q. omega arith)
-      ∙ get_or-set_same b k low 0 (omega arith)
-
-  own-high : get_or b6 (256 + k) 0 ≡ high
-  own-high =
-      get_or-set_other b5 (1280 + k) (256 + k) plain 0 (λ q. omega arith)
-      ∙ get_or-set_other b4 (1024 + k) (256 + k) repeat 0 (λ q. omega arith)
-      ∙ get_or-set_other b3 (768 + k) (256 + k) high2 0 (λ q. omega arith)
-      ∙ get_or-set_other b2 (512 + k) (256 + k) low2 0 (λ q. omega arith)
-      ∙ get_or-set_same b1 (256 + k) high 0 (simp length-set (omega arith))
-
-  own-low2 : get_or b6 (512 + k) 0 ≡ low2
-  own-low2 =
-      get_or-set_other b5 (1280 + k) (512 + k) plain 0 (λ q. omega arith)
-      ∙ get_or-set_other b4 (1024 + k) (512 + k) repeat 0 (λ q. omega arith)
-      ∙ get_or-set_other b3 (768 + k) (512 + k) high2 0 (λ q. omega arith)
-      ∙ get_or-set_same b2 (512 + k) low2 0 (simp length-set (omega arith))
-
-  own-high2 : get_or b6 (768 + k) 0 ≡ high2
-  own-high2 =
-      get_or-set_other b5 (1280 + k) (768 + k) plain 0 (λ q. omega arith)
-      ∙ get_or-set_other b4 (1024 + k) (768 + k) repeat 0 (λ q. omega arith)
-      ∙ get_or-set_same b3 (768 + k) high2 0 (simp length-set (omega arith))
-
-  own-repeat : get_or b6 (1024 + k) 0 ≡ repeat
-  own-repeat =
-      get_or-set_other b5 (1280 + k) (1024 + k) plain 0 (λ q. omega arith)
-      ∙ get_or-set_same b4 (1024 + k) repeat 0 (simp length-set (omega arith))
-
-  own-plain : get_or b6 (1280 + k) 0 ≡ plain
-  own-plain = get_or-set_same b5 (1280 + k) plain 0 (simp length-set (omega arith))
-
-  others-kept : (p : ℕ) → ¬ (p ≡ k) → ¬ (p ≡ 256 + k) → ¬ (p ≡ 512 + k) → ¬ (p ≡ 768 + k) → ¬ (p ≡ 1024 + k) → ¬ (p ≡ 1280 + k)
-      → get_or b6 p 0 ≡ get_or b p 0
-  others-kept p n1 n2 n3 n4 n5 n6 =
-      get_or-set_other b5 (1280 + k) p plain 0 n6
-      ∙ get_or-set_other b4 (1024 + k) p repeat 0 n5
-      ∙ get_or-set_other b3 (768 + k) p high2 0 n4
-      ∙ get_or-set_other b2 (512 + k) p low2 0 n3
-      ∙ get_or-set_other b1 (256 + k) p high 0 n2
-      ∙ get_or-set_other b k p low 0 n1
-
-  pub put_right : Put k low high low2 high2 repeat plain b b6
-  put_right =
-      record {
-        size = simp length-set refl;
-        own = (own-low, own-high, own-low2, own-high2, own-repeat, own-plain);
-        kept = λ j i x n y.
-            others-kept (256 * i + j) (λ q. apart j i 0 x n (omega arith)) (λ q. apart j i 1 x n (omega arith)) (λ q. apart j i 2 x n (omega arith))
-            (λ q. apart j i 3 x n (omega arith))
-            (λ q. apart j i 4 x n (omega arith))
-            (λ q. apart j i 5 x n (omega arith));
-      }
-    where
-      apart : (j i m : ℕ) → j < 256 → ¬ (j ≡ k) → 256 * i + j ≡ 256 * m + k → ⊥
-      apart j i m x n e = n (omega arith)
-
 -- what the columns say after a store
-module _ {k low high low2 high2 repeat plain : ℕ} {b b' : List ℕ} (p : Put k low high low2 high2 repeat plain b b') where
-  own_in : (c : ℕ) → in_bounds b' k c ≡ in_either low high low2 high2 c
-  unfolding in_bounds
-  own_in c = rw (p.own.0, p.own.1, p.own.2, p.own.3)
+module _ {k low high low2 high2 repeat : ℕ} {plain : Bool} {b b' : Bounds} (p : Put k low high low2 high2 repeat plain b b') where
+  columns-kept : Columns b → Columns b'
+  columns-kept z =
+      record {
+        low_long = ap length p.low_set ∙ length-set b.low k low ∙ z.low_long;
+        high_long = ap length p.high_set ∙ length-set b.high k high ∙ z.high_long;
+        low2_long = ap length p.low2_set ∙ length-set b.low2 k low2 ∙ z.low2_long;
+        high2_long = ap length p.high2_set ∙ length-set b.high2 k high2 ∙ z.high2_long;
+        repeat_long = ap length p.repeat_set ∙ length-set b.repeat k repeat ∙ z.repeat_long;
+        plain_long = ap length p.plain_set ∙ length-set b.plain k plain ∙ z.plain_long;
+      }
 
-  own-repeats : repeat_at b' k ≡ repeat
-  unfolding repeat_at
-  own-repeats = p.own.4
+  module _ (z : Columns b) (l : k < 256) where
+    own_in : (c : ℕ) → in_bounds b' k c ≡ in_either low high low2 high2 c
+    unfolding in_bounds
+    own_in c =
+        rw (
+          p.low_set,
+          p.high_set,
+          p.low2_set,
+          p.high2_set,
+          get_or-set_same b.low k low 0 (omega (arith, z.low_long)),
+          get_or-set_same b.high k high 0 (omega (arith, z.high_long)),
+          get_or-set_same b.low2 k low2 0 (omega (arith, z.low2_long)),
+          get_or-set_same b.high2 k high2 0 (omega (arith, z.high2_long)),
+        )
 
-  own-is-plain : is_plain b' k ≡ eqb plain 1
-  unfolding is_plain
-  own-is-plain = rw p.own.5
+    own-repeats : repeat_at b' k ≡ repeat
+    unfolding repeat_at
+    own-repeats = rw p.repeat_set (get_or-set_same b.repeat k repeat 0 (omega (arith, z.repeat_long)))
 
-  module _ (j : ℕ) (l : j < 256) (n : ¬ (j ≡ k)) where
-    kept_at : (i q : ℕ) → i < 6 → q ≡ 256 * i + j → get_or b' q 0 ≡ get_or b q 0
-    kept_at i q h e = rw e (p.kept j i l n h)
+    own-is-plain : is_plain b' k ≡ plain
+    unfolding is_plain
+    own-is-plain = rw p.plain_set (get_or-set_same b.plain k plain false (omega (arith, z.plain_long)))
 
+  module _ (j : ℕ) (n : ¬ (j ≡ k)) where
     in_kept : (c : ℕ) → in_bounds b' j c ≡ in_bounds b j c
     unfolding in_bounds
     in_kept c =
         rw (
-          kept_at 0 j (omega arith) (omega arith),
-          kept_at 1 (256 + j) (omega arith) (omega arith),
-          kept_at 2 (512 + j) (omega arith) (omega arith),
-          kept_at 3 (768 + j) (omega arith) (omega arith),
+          p.low_set,
+          p.high_set,
+          p.low2_set,
+          p.high2_set,
+          get_or-set_other b.low k j low 0 n,
+          get_or-set_other b.high k j high 0 n,
+          get_or-set_other b.low2 k j low2 0 n,
+          get_or-set_other b.high2 k j high2 0 n,
         )
 
     repeat-kept : repeat_at b' j ≡ repeat_at b j
     unfolding repeat_at
-    repeat-kept = kept_at 4 (1024 + j) (omega arith) (omega arith)
+    repeat-kept = rw p.repeat_set (get_or-set_other b.repeat k j repeat 0 n)
 
     plain-kept : is_plain b' j ≡ is_plain b j
     unfolding is_plain
-    plain-kept = rw (kept_at 5 (1280 + j) (omega arith) (omega arith))
+    plain-kept = rw p.plain_set (get_or-set_other b.plain k j plain false n)
 
     settled-kept : (t : List ℕ) → Settled t b j → Settled t b' j
     settled-kept t =
@@ -283,40 +224,39 @@ module _ {k low high low2 high2 repeat plain : ℕ} {b b' : List ℕ} (p : Put k
       → Bounded t (k + 1) b'
   bounded-more t q l f g =
       record {
-        size = p.size ∙ q.size;
+        size = columns-kept q.size;
         plain = λ j x h.
             ⊎_elim
             (λ (z : j < k).
-            settled-kept j (omega arith) (λ i. omega arith) t
-            (q.plain j z (sym (plain-kept j (omega arith) (λ i. omega arith)) ∙ h)))
+            settled-kept j (λ i. omega arith) t
+            (q.plain j z (sym (plain-kept j (λ i. omega arith)) ∙ h)))
             (λ (z : k ≤ j). let same : j ≡ k = omega arith in rw same (f (rw same at h)))
             (below_or j k);
         others = λ j x h.
             ⊎_elim
             (λ (z : j < k).
-            let o = q.others j z (sym (plain-kept j (omega arith) (λ i. omega arith)) ∙ h) in
-            (o.0, λ c. in_kept j (omega arith) (λ i. omega arith) c ∙ o.1 c))
+            let o = q.others j z (sym (plain-kept j (λ i. omega arith)) ∙ h) in
+            (o.0, λ c. in_kept j (λ i. omega arith) c ∙ o.1 c))
             (λ (z : k ≤ j). let same : j ≡ k = omega arith in rw same (g (rw same at h)))
             (below_or j k);
       }
 
-  plain_more : (t : List ℕ) → Bounded t k b → k < 256 → plain ≡ 1 → Settled t b' k → Bounded t (k + 1) b'
-  plain_more t q l one s =
-      bounded-more t q l (λ h. s) (λ h. absurd (true≢false (sym (own-is-plain ∙ eq-eqb plain 1 one) ∙ h)))
+  plain_more : (t : List ℕ) → Bounded t k b → k < 256 → plain ≡ true → Settled t b' k → Bounded t (k + 1) b'
+  plain_more t q l one s = bounded-more t q l (λ h. s) (λ h. absurd (true≢false (sym (own-is-plain q.size l ∙ one) ∙ h)))
 
-  unit-more : (t : List ℕ) → Bounded t k b → k < 256 → plain ≡ 1 → repeat ≡ 0 → (C : ℕ → Bool) → UnitRow (exp_of t k) C
+  unit-more : (t : List ℕ) → Bounded t k b → k < 256 → plain ≡ true → repeat ≡ 0 → (C : ℕ → Bool) → UnitRow (exp_of t k) C
       → ((c : ℕ) → c < 256 → C c ≡ in_either low high low2 high2 c)
       → Bounded t (k + 1) b'
   unit-more t q l one z C r same =
       plain_more t q l one
-      (inl (own-repeats ∙ z, unit-same (in_bounds b' k) r (λ c x. same c x ∙ sym (own_in c))))
+      (inl (own-repeats q.size l ∙ z, unit-same (in_bounds b' k) r (λ c x. same c x ∙ sym (own_in q.size l c))))
 
-  run_more : (t : List ℕ) → Bounded t k b → k < 256 → plain ≡ 1 → repeat ≡ 255 → (C : ℕ → Bool) → RunRow (exp_of t k) C
+  run_more : (t : List ℕ) → Bounded t k b → k < 256 → plain ≡ true → repeat ≡ 255 → (C : ℕ → Bool) → RunRow (exp_of t k) C
       → ((c : ℕ) → c < 256 → C c ≡ in_either low high low2 high2 c)
       → Bounded t (k + 1) b'
   run_more t q l one z C r same =
       plain_more t q l one
-      (inr (own-repeats ∙ z, run-same (in_bounds b' k) r (λ c x. same c x ∙ sym (own_in c))))
+      (inr (own-repeats q.size l ∙ z, run-same (in_bounds b' k) r (λ c x. same c x ∙ sym (own_in q.size l c))))
 
 -- no byte is in the range from 1 to 0
 none_in : (c : ℕ) → (leb 1 c && leb c 0) ≡ false
@@ -337,85 +277,15 @@ none-in-either c = rw (none_in c)
 one-in-either : (a b c : ℕ) → in_either a b 1 0 c ≡ (leb a c && leb c b)
 one-in-either a b c = rw (none_in c) (or-none (leb a c && leb c b))
 
-none_more : {k : ℕ} {b b' : List ℕ} (t : List ℕ) → Bounded t k b → k < 256 → Put k 1 0 1 0 0 0 b b' → is_letter t k ≡ false
+none_more : {k : ℕ} {b b' : Bounds} (t : List ℕ) → Bounded t k b → k < 256 → Put k 1 0 1 0 0 false b b' → is_letter t k ≡ false
     → Bounded t (k + 1) b'
 none_more {k} {b} {b'} t q l p n =
-    bounded-more p t q l (λ h. absurd (true≢false (sym h ∙ own-is-plain p)))
-    (λ h. (n, λ c. own_in p c ∙ none-in-either c))
+    bounded-more p t q l (λ h. absurd (true≢false (sym h ∙ own-is-plain p q.size l)))
+    (λ h. (n, λ c. own_in p q.size l c ∙ none-in-either c))
 
 -- no letter
 no-letter : (t : List ℕ) (k : ℕ) → ¬ (kind_at t k ≡ 2) → ¬ (kind_at t k ≡ 6) → is_letter t k ≡ false
 no-letter t k n2 n6 = never_true (is_letter t k) (λ h. ⊎_elim n2 n6 (letter-kinds t k h))
-
--- a byte within one of two ranges
-in-either-true : (l h l2 h2 c : ℕ) → in_either l h l2 h2 c ≡ true → ((l ≤ c) × (c ≤ h)) ⊎ ((l2 ≤ c) × (c ≤ h2))
-in-either-true l h l2 h2 c e =
-    ⊎_elim
-    (λ (z : (leb l c && leb c h) ≡ true). let p = each (leb l c) (leb c h) z in inl (leb-true l c p.0, leb-true c h p.1))
-    (λ (z : (leb l2 c && leb c h2) ≡ true). let p = each (leb l2 c) (leb c h2) z in inr (leb-true l2 c p.0, leb-true c h2 p.1))
-    (either (leb l c && leb c h) (leb l2 c && leb c h2) e)
-
-in-first : (l h l2 h2 c : ℕ) → l ≤ c → c ≤ h → in_either l h l2 h2 c ≡ true
-in-first l h l2 h2 c x y = rw (le-leb l c x, le-leb c h y)
-
-in-second : (l h l2 h2 c : ℕ) → l2 ≤ c → c ≤ h2 → in_either l h l2 h2 c ≡ true
-in-second l h l2 h2 c x y = or-second (leb l c && leb c h) (rw (le-leb l2 c x, le-leb c h2 y))
-
--- the ranges of an Other, one law for each way in which they are stored
-module _ {k a z : ℕ} {b b' : List ℕ} where
-  other-put : (l h l2 h2 : ℕ) → Put k l h l2 h2 0 1 b b'
-      → ((c : ℕ) → c < 256 → ((l ≤ c) × (c ≤ h)) ⊎ ((l2 ≤ c) × (c ≤ h2)) → (c < a) ⊎ (z < c))
-      → ((c : ℕ) → c < 256 → c < a → (l ≤ c) × (c ≤ h))
-      → ((c : ℕ) → c < 256 → z < c → (l2 ≤ c) × (c ≤ h2))
-      → PutOther k a z b b'
-  other-put l h l2 h2 p f g i =
-      record {
-        low = l;
-        high = h;
-        low2 = l2;
-        high2 = h2;
-        put = p;
-        right = λ c x.
-            same_truth (in_either l h l2 h2 c) (ltb c a || ltb z c)
-            (λ y.
-            ⊎_elim
-            (λ (q : c < a). rw (lt-ltb c a q))
-            (λ (q : z < c). or-second (ltb c a) (lt-ltb z c q))
-            (f c x (in-either-true l h l2 h2 c y)))
-            (λ y.
-            ⊎_elim
-            (λ (q : ltb c a ≡ true). let r = g c x (ltb-true c a q) in in-first l h l2 h2 c r.0 r.1)
-            (λ (q : ltb z c ≡ true). let r = i c x (ltb-true z c q) in in-second l h l2 h2 c r.0 r.1)
-            (either (ltb c a) (ltb z c) y));
-      }
-
-  pub other-none-put : a ≡ 0 → z ≡ 255 → Put k 1 0 1 0 0 1 b b' → PutOther k a z b b'
-  other-none-put za zz e =
-      other-put 1 0 1 0 e
-      (λ c x. ⊎_elim (λ (q : (1 ≤ c) × (c ≤ 0)). absurd (omega arith)) (λ (q : (1 ≤ c) × (c ≤ 0)). absurd (omega arith)))
-      (λ c x y. absurd (omega arith))
-      (λ c x y. absurd (omega arith))
-
-  pub other-high-put : a ≡ 0 → Put k 1 0 (z + 1) 255 0 1 b b' → PutOther k a z b b'
-  other-high-put za e =
-      other-put 1 0 (z + 1) 255 e
-      (λ c x. ⊎_elim (λ (q : (1 ≤ c) × (c ≤ 0)). absurd (omega arith)) (λ (q : (z + 1 ≤ c) × (c ≤ 255)). inr (omega arith)))
-      (λ c x y. absurd (omega arith))
-      (λ c x y. (omega arith, omega arith))
-
-  pub other-low-put : ¬ (a ≡ 0) → z ≡ 255 → Put k 0 (a - 1) 1 0 0 1 b b' → PutOther k a z b b'
-  other-low-put na zz e =
-      other-put 0 (a - 1) 1 0 e
-      (λ c x. ⊎_elim (λ (q : (0 ≤ c) × (c ≤ a - 1)). inl (omega arith)) (λ (q : (1 ≤ c) × (c ≤ 0)). absurd (omega arith)))
-      (λ c x y. (omega arith, omega arith))
-      (λ c x y. absurd (omega arith))
-
-  pub other-both-put : ¬ (a ≡ 0) → Put k 0 (a - 1) (z + 1) 255 0 1 b b' → PutOther k a z b b'
-  other-both-put na e =
-      other-put 0 (a - 1) (z + 1) 255 e
-      (λ c x. ⊎_elim (λ (q : (0 ≤ c) × (c ≤ a - 1)). inl (omega arith)) (λ (q : (z + 1 ≤ c) × (c ≤ 255)). inr (omega arith)))
-      (λ c x y. (omega arith, omega arith))
-      (λ c x y. (omega arith, omega arith))
 
 -- letters
 range-unit : (t : List ℕ) (k : ℕ) → kind_at t k ≡ 2 → UnitRow (exp_of t k) (λ c. leb (a_at t k) c && leb c (b_at t k))
@@ -429,21 +299,21 @@ other-unit t k e =
     (letter-unit (outside (a_at t k) (b_at t k)) (λ c. ltb c (a_at t k) || ltb (b_at t k) c) (λ c x. rw (lt-ltb c 256 x)))
 
 -- a plain record by whether it repeats
-unit-of : (t b : List ℕ) (k j : ℕ) → Bounded t k b → j < k → is_plain b j ≡ true → repeat_at b j ≡ 0 → UnitRow (exp_of t j) (in_bounds b j)
+unit-of : (t : List ℕ) (b : Bounds) (k j : ℕ) → Bounded t k b → j < k → is_plain b j ≡ true → repeat_at b j ≡ 0 → UnitRow (exp_of t j) (in_bounds b j)
 unit-of t b k j q l h e =
     ⊎_elim
     (λ (s : (repeat_at b j ≡ 0) × UnitRow (exp_of t j) (in_bounds b j)). s.1)
     (λ (s : (repeat_at b j ≡ 255) × RunRow (exp_of t j) (in_bounds b j)). absurd (let z = s.0 in omega arith))
     (q.plain j l h)
 
-run_of : (t b : List ℕ) (k j : ℕ) → Bounded t k b → j < k → is_plain b j ≡ true → repeat_at b j ≡ 255 → RunRow (exp_of t j) (in_bounds b j)
+run_of : (t : List ℕ) (b : Bounds) (k j : ℕ) → Bounded t k b → j < k → is_plain b j ≡ true → repeat_at b j ≡ 255 → RunRow (exp_of t j) (in_bounds b j)
 run_of t b k j q l h e =
     ⊎_elim
     (λ (s : (repeat_at b j ≡ 0) × UnitRow (exp_of t j) (in_bounds b j)). absurd (let z = s.0 in omega arith))
     (λ (s : (repeat_at b j ≡ 255) × RunRow (exp_of t j) (in_bounds b j)). s.1)
     (q.plain j l h)
 
-in-of : (b : List ℕ) (a c : ℕ) → in_bounds b a c ≡ in_either (get_or b a 0) (get_or b (256 + a) 0) (get_or b (512 + a) 0) (get_or b (768 + a) 0) c
+in-of : (b : Bounds) (a c : ℕ) → in_bounds b a c ≡ in_either (get_or b.low a 0) (get_or b.high a 0) (get_or b.low2 a 0) (get_or b.high2 a 0) c
 unfolding in_bounds
 in-of b a c = refl
 
@@ -451,8 +321,8 @@ pub record-small : (t : List ℕ) → Passes t → (k : ℕ) → k < count t →
 record-small t p k l = omega (arith, count-bound t p)
 
 -- the ways in which a record's columns are found
-module _ (t : List ℕ) (p : Passes t) (k : ℕ) (l : k < count t) {b b' : List ℕ} (q : Bounded t k b) where
-  pub range-found : {low high : ℕ} → kind_at t k ≡ 2 → low ≡ a_at t k → high ≡ b_at t k → Put k low high 1 0 0 1 b b' → Bounded t (k + 1) b'
+module _ (t : List ℕ) (p : Passes t) (k : ℕ) (l : k < count t) {b b' : Bounds} (q : Bounded t k b) where
+  pub range-found : {low high : ℕ} → kind_at t k ≡ 2 → low ≡ a_at t k → high ≡ b_at t k → Put k low high 1 0 0 true b b' → Bounded t (k + 1) b'
   range-found {low} {high} e ea eb put =
       unit-more put t q (record-small t p k l) refl refl (λ c. leb (a_at t k) c && leb c (b_at t k)) (range-unit t k e)
       (λ c x. rw (ea, eb) (sym (one-in-either (a_at t k) (b_at t k) c)))
@@ -462,14 +332,14 @@ module _ (t : List ℕ) (p : Passes t) (k : ℕ) (l : k < count t) {b b' : List 
       unit-more put.put t q (record-small t p k l) refl refl (λ c. ltb c (a_at t k) || ltb (b_at t k) c) (other-unit t k e)
       (λ c x. rw (sym ea, sym eb) (sym (put.right c x)))
 
-  pub none_found : ¬ (kind_at t k ≡ 2) → ¬ (kind_at t k ≡ 6) → Put k 1 0 1 0 0 0 b b' → Bounded t (k + 1) b'
+  pub none_found : ¬ (kind_at t k ≡ 2) → ¬ (kind_at t k ≡ 6) → Put k 1 0 1 0 0 false b b' → Bounded t (k + 1) b'
   none_found n2 n6 put = none_more t q (record-small t p k l) put (no-letter t k n2 n6)
 
   pub or-found : {a z low high low2 high2 : ℕ} → kind_at t k ≡ 3 → a ≡ a_at t k → z ≡ b_at t k → kind_at t a ≡ 2 → kind_at t z ≡ 2 → low ≡ a_at t a
       → high ≡ b_at t a
       → low2 ≡ a_at t z
       → high2 ≡ b_at t z
-      → Put k low high low2 high2 0 1 b b'
+      → Put k low high low2 high2 0 true b b'
       → Bounded t (k + 1) b'
   or-found {a} {z} {low} {high} {low2} {high2} e ea ez ka kz el eh el2 eh2 put =
       let rule : exp_of t k ≡ or (exp_of t a) (exp_of t z) =
@@ -505,47 +375,23 @@ module _ (t : List ℕ) (p : Passes t) (k : ℕ) (l : k < count t) {b b' : List 
       empty))
       (λ c x. in-of b a c)
 
-pub bounded-none : (t b : List ℕ) → length b ≡ 1536 → Bounded t 0 b
-bounded-none t b e = record { size = e; plain = λ j l h. absurd (omega arith); others = λ j l h. absurd (omega arith) }
-
 -- what the code's tests show
-pub unit-seen : (b : List ℕ) (k : ℕ) → get_or b (1280 + k) 0 ≡ 1 → eqb (get_or b (1024 + k) 0) 0 ≡ true → (is_plain b k ≡ true) × (repeat_at b k ≡ 0)
+pub plain-seen : (b : Bounds) (k repeat : ℕ) → get_or b.plain k false ≡ true → eqb (get_or b.repeat k 0) repeat ≡ true
+    → (is_plain b k ≡ true) × (repeat_at b k ≡ repeat)
 unfolding is_plain repeat_at
-unit-seen b k e h = (eq-eqb (get_or b (1280 + k) 0) 1 e, eqb-true (get_or b (1024 + k) 0) 0 h)
+plain-seen b k repeat e h = (e, eqb-true (get_or b.repeat k 0) repeat h)
 
-pub run-seen : (b : List ℕ) (k : ℕ) → get_or b (1280 + k) 0 ≡ 1 → get_or b (1024 + k) 0 ≡ 255 → (is_plain b k ≡ true) × (repeat_at b k ≡ 255)
-unfolding is_plain repeat_at
-run-seen b k e h = (eq-eqb (get_or b (1280 + k) 0) 1 e, h)
-
-pub ranges-seen : (b : List ℕ) (k j : ℕ) → get_or b k 0 ≡ get_or b j 0 → get_or b (256 + k) 0 ≡ get_or b (256 + j) 0
-    → get_or b (512 + k) 0 ≡ get_or b (512 + j) 0
-    → eqb (get_or b (768 + k) 0) (get_or b (768 + j) 0) ≡ true
+pub ranges-seen : (b : Bounds) (k j : ℕ) → get_or b.low k 0 ≡ get_or b.low j 0 → eqb (get_or b.high k 0) (get_or b.high j 0) ≡ true
+    → eqb (get_or b.low2 k 0) (get_or b.low2 j 0) ≡ true
+    → eqb (get_or b.high2 k 0) (get_or b.high2 j 0) ≡ true
     → (c : ℕ) → in_bounds b k c ≡ in_bounds b j c
 unfolding in_bounds
-ranges-seen b k j e e2 e3 h c = rw (e, e2, e3, eqb-true (get_or b (768 + k) 0) (get_or b (768 + j) 0) h)
+ranges-seen b k j e e2 e3 e4 c = rw (e, eqb-true _ _ e2, eqb-true _ _ e3, eqb-true _ _ e4)
 
 -- a record of a kind that is no letter's
-pub none-kind : (t : List ℕ) → Passes t → (k : ℕ) → k < count t → {b b' : List ℕ} → Bounded t k b → (kind : ℕ) → kind_at t k ≡ kind → ¬ (kind ≡ 2)
+pub none-kind : (t : List ℕ) → Passes t → (k : ℕ) → k < count t → {b b' : Bounds} → Bounded t k b → (kind : ℕ) → kind_at t k ≡ kind → ¬ (kind ≡ 2)
     → ¬ (kind ≡ 6)
-    → Put k 1 0 1 0 0 0 b b'
+    → Put k 1 0 1 0 0 false b b'
     → Bounded t (k + 1) b'
 none-kind t p k l q kind e n2 n6 put =
     none_found t p k l q (λ (z : kind_at t k ≡ 2). n2 (sym e ∙ z)) (λ (z : kind_at t k ≡ 6). n6 (sym e ∙ z)) put
-
--- the children's records are within the table
-module _ (t : List ℕ) (p : Passes t) (k : ℕ) (l : k < count t) where
-  within-table : (j : ℕ) → j < k → 4 * j + 3 < length t
-  within-table j x = omega (arith, count-bound t p)
-
-  module _ (e : (kind_at t k ≡ 3) ⊎ (kind_at t k ≡ 4)) where
-    pub first_below : {a : ℕ} → a ≡ a_at t k → a < k
-    first_below ea = omega (arith, a-below t p k l e)
-
-    pub first-inside : {a : ℕ} → a ≡ a_at t k → 4 * a + 3 < length t
-    first-inside {a} ea = within-table a (first_below ea)
-
-    second_below : {b : ℕ} → b ≡ b_at t k → b < k
-    second_below eb = omega (arith, b-below t p k l e)
-
-    pub second-inside : {b : ℕ} → b ≡ b_at t k → 4 * b + 3 < length t
-    second-inside {b} eb = within-table b (second_below eb)

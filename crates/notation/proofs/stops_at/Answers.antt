@@ -1,13 +1,10 @@
 -- `notation::stops_at` meets its contract. Assumes nothing.
-use mathlib.Core.Path.{refl}
+use mathlib.Core.Path.{sym, ◌∙◌}
 use Rattle.notation.proofs.Compiling.{stops-whole, stops-stuck}
 use Rattle.notation.proofs.stops_at.Goals as goal
 
-pub count_text-counted-requires : goal.count_text-counted-requires
-count_text-counted-requires c = record { marks = (refl, refl) }
+pub returns-in-Ok : goal.returns-in-Ok
+returns-in-Ok c = stops-whole c.args.text.now _ (sym c.in-Ok.is ∙ c.count_text.ensures)
 
-pub returns-then-counted : goal.returns-then-counted
-returns-then-counted c = stops-whole c.args.text.now _ c.count_text-counted.ensures.counted c.if-counted.true
-
-pub returns : goal.returns
-returns c = stops-stuck c.args.text.now _ c.count_text-counted.ensures.counted c.if-counted.false
+pub returns-in-Err : goal.returns-in-Err
+returns-in-Err c = stops-stuck c.args.text.now _ (sym c.in-Err.is ∙ c.count_text.ensures)

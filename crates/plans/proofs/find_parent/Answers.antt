@@ -1,45 +1,37 @@
 -- `plans::find_parent` meets its contract: one law of Finding for each way out. Assumes nothing.
 use native.Mathlib.Omega.{arith}
-use mathlib.Core.Logic.{inl, inr}
-use Rattle.table.proofs.Passing.{count-bound, a-below}
+use Prim.Native.Nat.{ℕ, ◌+◌}
+use mathlib.Core.Path.{◌≡◌, refl}
+use mathlib.Core.Logic.{inl, inr, ⊎_elim}
+use Rattle.table.specs.Records.{kind_at}
+use Rattle.plans.specs.Plans.{Parents}
+use Rattle.table.proofs.Passing.{count-bound}
 use Rattle.plans.proofs.Finding.{plain-parent, star-parent, both-parent, seq-parent, no-parent}
 use Rattle.plans.proofs.find_parent.Goals as goal
 
 pub bounds-bounds-k : goal.bounds-bounds-k
 bounds-bounds-k c = omega (arith, count-bound c.args.table.now c.requires.passes)
 
-pub returns-then-bounds-k-eq1 : goal.returns-then-bounds-k-eq1
-returns-then-bounds-k-eq1 c = plain-parent c.args.table.now c.args.bounds.now c.requires.passes _ c.requires.k_bound _ c.requires.parents c.if-bounds-k-eq1.true
+pub returns-then-bounds-k : goal.returns-then-bounds-k
+returns-then-bounds-k c = plain-parent c.args.table.now c.args.bounds.now c.requires.passes _ c.requires.record _ c.requires.parents c.if-bounds-k.true
 
-pub overflow_cast-up : goal.overflow_cast-up
-overflow_cast-up c = omega (arith, count-bound c.args.table.now c.requires.passes)
+pub returns-in-Star : goal.returns-in-Star
+returns-in-Star c = star-parent c.args.table.now c.args.bounds.now c.requires.passes _ c.requires.record _ c.requires.parents _ _ _ c.in-Star.ensures.kind c.a_at-a.ensures c.b_at-b.ensures refl (omega arith)
 
-pub returns-then-kind-eq-STAR : goal.returns-then-kind-eq-STAR
-returns-then-kind-eq-STAR c = star-parent c.args.table.now c.args.bounds.now c.requires.passes _ c.requires.k_bound _ c.requires.parents _ _ _ c.kind_at-kind.ensures c.a_at-a.ensures c.b_at-b.ensures c.if-kind-eq-STAR.true (omega arith)
-
-pub overflow_cast-up-then-kind-eq-OR : goal.overflow_cast-up-then-kind-eq-OR
-overflow_cast-up-then-kind-eq-OR c = omega (arith, count-bound c.args.table.now c.requires.passes)
-
-pub overflow_cast-up-then-kind-eq-OR-2 : goal.overflow_cast-up-then-kind-eq-OR-2
-overflow_cast-up-then-kind-eq-OR-2 c = omega (arith, count-bound c.args.table.now c.requires.passes)
-
-pub returns-then-kind-eq-OR : goal.returns-then-kind-eq-OR
-returns-then-kind-eq-OR c = both-parent c.args.table.now c.args.bounds.now c.requires.passes _ c.requires.k_bound _ c.requires.parents _ _ _ c.kind_at-kind.ensures c.a_at-a.ensures c.b_at-b.ensures (inl c.if-kind-eq-OR.true) (omega arith) (omega arith)
-
-pub overflow_cast-up-then-kind-eq-SEQ : goal.overflow_cast-up-then-kind-eq-SEQ
-overflow_cast-up-then-kind-eq-SEQ c = omega (arith, count-bound c.args.table.now c.requires.passes)
-
-pub bounds-work-a : goal.bounds-work-a
-bounds-work-a c = omega (arith, a-below c.args.table.now c.requires.passes c.args.k c.requires.k_bound (inr (omega arith)))
-
-pub overflow_cast-up-then-work-a-ne0 : goal.overflow_cast-up-then-work-a-ne0
-overflow_cast-up-then-work-a-ne0 c = omega (arith, count-bound c.args.table.now c.requires.passes)
+pub returns-in-Or : goal.returns-in-Or
+returns-in-Or c = both-parent c.args.table.now c.args.bounds.now c.requires.passes _ c.requires.record _ c.requires.parents _ _ _ c.in-Or.ensures.kind c.a_at-a.ensures c.b_at-b.ensures (inl refl) (omega arith) (omega arith)
 
 pub returns-then-work-a-ne0 : goal.returns-then-work-a-ne0
-returns-then-work-a-ne0 c = both-parent c.args.table.now c.args.bounds.now c.requires.passes _ c.requires.k_bound _ c.requires.parents _ _ _ c.kind_at-kind.ensures c.a_at-a.ensures c.b_at-b.ensures (inr c.if-kind-eq-SEQ.true) (omega arith) (omega arith)
+returns-then-work-a-ne0 c = both-parent c.args.table.now c.args.bounds.now c.requires.passes _ c.requires.record _ c.requires.parents _ _ _ c.in-Seq.ensures.kind c.a_at-a.ensures c.b_at-b.ensures (inr refl) (omega arith) (omega arith)
 
 pub returns-else-work-a-ne0 : goal.returns-else-work-a-ne0
-returns-else-work-a-ne0 c = seq-parent c.args.table.now c.args.bounds.now c.requires.passes _ c.requires.k_bound _ c.requires.parents _ _ _ c.kind_at-kind.ensures c.a_at-a.ensures c.b_at-b.ensures _ c.requires.empty_told c.if-kind-eq-SEQ.true c.if-work-a-ne0.false (omega arith)
+returns-else-work-a-ne0 c = seq-parent c.args.table.now c.args.bounds.now c.requires.passes _ c.requires.record _ c.requires.parents _ _ _ c.in-Seq.ensures.kind c.a_at-a.ensures c.b_at-b.ensures _ c.requires.empty_told refl c.if-work-a-ne0.false (omega arith)
 
-pub returns-else-kind-eq-SEQ : goal.returns-else-kind-eq-SEQ
-returns-else-kind-eq-SEQ c = no-parent c.args.table.now c.args.bounds.now c.requires.passes _ c.requires.k_bound _ c.requires.parents _ _ _ c.kind_at-kind.ensures c.a_at-a.ensures c.b_at-b.ensures c.if-kind-eq-OR.false c.if-kind-eq-SEQ.false c.if-kind-eq-STAR.false
+pub returns-in-Nothing : goal.returns-in-Nothing
+returns-in-Nothing c =
+    let other : (n : ℕ) → n ≡ kind_at c.args.table.now c.args.k → ¬ (n ≡ 3) → ¬ (n ≡ 4) → ¬ (n ≡ 5) → Parents c.args.table.now c.args.bounds.now (c.args.k + 1) c.args.up.now =
+    λ n e. no-parent c.args.table.now c.args.bounds.now c.requires.passes _ c.requires.record _ c.requires.parents n _ _ e c.a_at-a.ensures c.b_at-b.ensures in
+    ⊎_elim (λ e. other 0 (rw e at c.kind_at-kind.ensures.kind) (λ z. omega arith) (λ z. omega arith) (λ z. omega arith))
+    (⊎_elim (λ e. other 1 (rw e at c.kind_at-kind.ensures.kind) (λ z. omega arith) (λ z. omega arith) (λ z. omega arith))
+    (⊎_elim (λ e. other 2 (rw e at c.kind_at-kind.ensures.kind) (λ z. omega arith) (λ z. omega arith) (λ z. omega arith)) (λ e. other 6 (rw e at c.kind_at-kind.ensures.kind) (λ z. omega arith) (λ z. omega arith) (λ z. omega arith))))
+    c.in-Nothing.is
