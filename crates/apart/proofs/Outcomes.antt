@@ -10,8 +10,7 @@ use borrow.Author.Tests.{ne_eqb}
 use lib.Dec.{eqb}
 use lib.ListN.{length}
 use Rattle.table.specs.declared.Refusal.{Refusal}
-use Rattle.table.specs.declared.Answer.{Answer}
-use Rattle.table.specs.declared.Answer.TheVariants.{Refused}
+use Rattle.std.specs.Prelude.{Result, Ok, Err}
 use Rattle.table.specs.Records.{count, kind_at, a_at, b_at}
 use Rattle.table.specs.Answers.{Said, gives, refusal, says}
 use Rattle.table.specs.Expression.{exp_of}
@@ -33,7 +32,7 @@ right : (t : List ℕ) (k : ℕ) (said : Said) → said ≡ apart_says t k → R
 right t k said e = (e, λ (y : said ≡ gives 1). yes-apart t k (sym e ∙ y))
 
 pub outcome-refused :
-    (t : List ℕ) (k : ℕ) (r : Answer) (why : Refusal) → says r ≡ if_start t k (gives (count t)) → r ≡ Refused why → Right t k (refusal why)
+    (t : List ℕ) (k : ℕ) (r : Result ℕ Refusal) (why : Refusal) → says r ≡ if_start t k (gives (count t)) → r ≡ Err why → Right t k (refusal why)
 unfolding apart_says
 outcome-refused t k r why e f = right t k (refusal why) (not-admitted t k r why e f (gives (cond (seen_apart t k) 1 0)))
 

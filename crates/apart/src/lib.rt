@@ -5,20 +5,18 @@
 
 ghost use Rattle.std.specs.Prelude.{◌<◌, ◌≡◌};
 ghost use Rattle.table.specs.Records.{count};
-ghost use Rattle.table.specs.Faults.{Passes};
 ghost use Rattle.table.specs.Answers.{says, gives};
 ghost use Rattle.table.specs.Expression.{exp_of};
 ghost use Rattle.reorder.specs.Exchanges.{Apart};
 ghost use Rattle.apart.specs.Calls.{apart_says};
 ghost use Rattle.apart.specs.Shared.{shared_bits, shared_below, Told};
 
-use table::Answer;
+use table::{Kind, Refusal, Rules};
 
 // What records i and j share, by byte c: bit 128 where both spell the empty line, bit 1 where lines of both may start with c, bit 2 where lines
 // of both may end with c.
-fn shared_bits(table: &[u8], i: usize, j: usize, c: u8) -> u8
-    requires passes { Passes table.now }
-    requires i_bound { (i < count table.now) × (j < count table.now) }
+fn shared_bits(table: &Rules, i: usize, j: usize, c: u8) -> u8
+    requires { (i < count table.now) × (j < count table.now) }
     ensures { result ≡ shared_bits (exp_of table.now i) (exp_of table.now j) c }
 {
     let mut words = [0u64; 4];
@@ -28,16 +26,13 @@ fn shared_bits(table: &[u8], i: usize, j: usize, c: u8) -> u8
 }
 
 // What they share by some byte.
-fn all_shared(table: &[u8], i: usize, j: usize) -> u8
-    requires passes { Passes table.now }
-    requires i_bound { (i < count table.now) × (j < count table.now) }
+fn all_shared(table: &Rules, i: usize, j: usize) -> u8
+    requires { (i < count table.now) × (j < count table.now) }
     ensures { result ≡ shared_below (exp_of table.now i) (exp_of table.now j) 256 }
 {
     let mut shared = 0;
-    let mut c = 0usize;
-    while c < 256 {
-        shared = shared | shared_bits(table, i, j, c as u8);
-        c += 1;
+    for c in 0..256usize {
+        shared |= shared_bits(table, i, j, c as u8);
     }
     shared
 }
@@ -46,28 +41,19 @@ fn all_shared(table: &[u8], i: usize, j: usize) -> u8
 fn told_apart(shared: u8) -> bool
     ensures { Told shared result }
 {
-    if shared & 128 != 0 {
-        return false;
-    }
-    shared & 3 != 3
+    shared & 128 == 0 && shared & 3 != 3
 }
 
 // Apart: 1 where the alternatives of Or record k are seen to share no line, 0 where that is not known or record k is no Or.
-pub fn apart(table: &[u8], k: usize) -> Answer
+pub fn apart(table: &[u8], k: usize) -> Result<usize, Refusal>
     ensures equation { says result ≡ apart_says table.now k }
     ensures yes { says result ≡ gives 1 → Apart table.now k }
 {
-    let admitted = reading::admit(table, k);
-    if let Answer::Refused(why) = admitted {
-        return Answer::Refused(why);
+    let rules = reading::admit(table, k)?;
+    if rules.kind_at(k) != Kind::Or {
+        return Ok(0);
     }
-    if table::kind_at(table, k) != table::OR {
-        return Answer::Done(0);
-    }
-    let a = table::a_at(table, k) as usize;
-    let b = table::b_at(table, k) as usize;
-    if told_apart(all_shared(table, a, b)) {
-        return Answer::Done(1);
-    }
-    Answer::Done(0)
+    let a = rules.a_at(k) as usize;
+    let b = rules.b_at(k) as usize;
+    Ok(told_apart(all_shared(&rules, a, b)) as usize)
 }

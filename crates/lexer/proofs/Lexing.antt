@@ -14,8 +14,7 @@ use Rattle.posix.specs.Decision.{Parsed, found, missing, parse}
 use Rattle.posix.proofs.Flats.{posix-flat, posix-reads}
 use Rattle.posix.proofs.Found.{parse-found}
 use Rattle.table.specs.declared.Refusal.{Refusal}
-use Rattle.table.specs.declared.Answer.{Answer}
-use Rattle.table.specs.declared.Answer.TheVariants.{Done, Refused}
+use Rattle.std.specs.Prelude.{Result, Ok, Err}
 use Rattle.table.specs.Answers.{Said, gives, refuses, refusal, says}
 use Rattle.table.specs.Expression.{exp_of}
 use Rattle.table.specs.Buffers.{if_room, after}
@@ -128,8 +127,8 @@ unfolding lex_says
 lex-refused t k s work room space n d e = rw e
 
 pub line_refused :
-    (t : List ℕ) (k : ℕ) (s : List ℕ) (work room : ℕ) (list : List ℕ) {r : Answer} {why : Refusal} → says r ≡ read_says t k s work room
-    → r ≡ Refused why
+    (t : List ℕ) (k : ℕ) (s : List ℕ) (work room : ℕ) (list : List ℕ) {r : Result ℕ Refusal} {why : Refusal} → says r ≡ read_says t k s work room
+    → r ≡ Err why
     → (refusal why ≡ lex_says t k s work room (length list)) × (list ≡ lex_leaves t k s work room list)
 unfolding lex_says lex_leaves
 line_refused t k s work room list {r} {why} e f =
@@ -172,9 +171,9 @@ lexed-left t k s work room list n e =
     }
 
 pub lexed :
-    (t : List ℕ) (k : ℕ) (s : List ℕ) (work room : ℕ) (list : List ℕ) {final : List ℕ} {r : Answer} {n : ℕ}
+    (t : List ℕ) (k : ℕ) (s : List ℕ) (work room : ℕ) (list : List ℕ) {final : List ℕ} {r : Result ℕ Refusal} {n : ℕ}
     → says r ≡ lex_says t k s work room (length list)
-    → r ≡ Done n
+    → r ≡ Ok n
     → final ≡ lex_leaves t k s work room list
     → Lexed t k s list final n
 lexed t k s work room list {n = n} e f g = rw g (lexed-left t k s work room list n (sym e ∙ ap says f))

@@ -7,7 +7,7 @@ ghost use Rattle.table.specs.Answers.{says};
 ghost use Rattle.lexer.specs.Lexing.{lex_says, lex_leaves};
 
 use reading::Place;
-use table::Answer;
+use table::Refusal;
 
 // Writes the tokens of a line to the front of the token buffer and returns their count. The line's reading goes into the reading buffer.
 pub fn lex(
@@ -17,7 +17,7 @@ pub fn lex(
     work: &mut [u8],
     reading: &mut [u8],
     tokens: &mut [u8],
-) -> Answer
+) -> Result<usize, Refusal>
     ensures answer { says result
         ≡ lex_says table.now start line.now (length work.old) (length reading.old)
         (length tokens.old) }
@@ -25,11 +25,6 @@ pub fn lex(
         ≡ lex_leaves table.now start line.now (length work.old) (length reading.old)
         tokens.old }
 {
-    match matcher::read(table, start, line, work, reading) {
-        Answer::Done(records) => {
-            let end = Place::RECORD * records;
-            tokens::tokens(table, start, &reading[..end], tokens)
-        }
-        Answer::Refused(why) => Answer::Refused(why),
-    }
+    let records = matcher::read(table, start, line, work, reading)?;
+    tokens::tokens(table, start, &reading[..Place::RECORD * records], tokens)
 }

@@ -19,10 +19,9 @@ use Rattle.posix.proofs.Flats.{posix-flat, posix-reads}
 use Rattle.posix.proofs.Ahead.{posix-unbeaten}
 use Rattle.posix.proofs.Found.{parse-found, parse-none}
 use Rattle.table.specs.declared.Refusal.{Refusal}
-use Rattle.table.specs.declared.Answer.{Answer}
-use Rattle.table.specs.declared.Answer.TheVariants.{Refused}
+use Rattle.std.specs.Prelude.{Result, Err}
 use Rattle.table.specs.Records.{count}
-use Rattle.table.specs.Answers.{Said, gives, refuses, refusal, says}
+use Rattle.table.specs.Answers.{Said, gives, refuses, refusal, rules_say}
 use Rattle.table.specs.Checked.{or_else}
 use Rattle.table.specs.Expression.{exp_of}
 use Rattle.table.proofs.Passing.{count-bound}
@@ -81,7 +80,7 @@ refused t k s work out work1 e f kept =
 
 -- 1 to 6, and 9
 pub outcome-table :
-    (t : List ℕ) (k : ℕ) (s work out : List ℕ) {r : Answer} (why : Refusal) → says r ≡ if_start t k (gives (count t)) → r ≡ Refused why
+    (t : List ℕ) (k : ℕ) (s work out : List ℕ) {r : Result (List ℕ) Refusal} (why : Refusal) → rules_say r ≡ if_start t k (gives (count t)) → r ≡ Err why
     → Outcome t k s work out work out (refusal why)
 unfolding read_says
 outcome-table t k s work out {r} why e f =

@@ -30,10 +30,6 @@ module _ {t s w : List ℕ} {k d e : ℕ} (h : Here t s w k d e) where
   pub reading : (v : Val) × Posix (part s d e) (exp_of t k) v
   reading = posix-exists (exp_of t k) (part s d e) (spells-sound (exp_of t k) (part s d e) h.spelled)
 
-  -- the record's bytes are in the table
-  pub record-there : 4 * k + 3 < length t
-  record-there = omega (arith, h.record_inside, count-bound t h.passes)
-
   -- no part is spelled by Nothing
   pub not-nothing : kind_at t k ≡ 0 → ⊥
   not-nothing z =

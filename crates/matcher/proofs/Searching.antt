@@ -1,6 +1,6 @@
 -- The search for the longest first part, downward from the longest one that the area tells.
 -- Assumes nothing.
-use Prim.Native.Nat.{ℕ, ◌-◌, ◌≤◌, ◌<◌}
+use Prim.Native.Nat.{ℕ, ◌-◌, min, ◌≤◌, ◌<◌}
 use native.Mathlib.Nat.{eq-or-lt_of_le}
 use native.Mathlib.Omega.{arith}
 use mathlib.Core.Path.{◌≡◌, refl, sym, ◌∙◌, subst}
@@ -29,9 +29,9 @@ module _ {m : ℕ} {w : List ℕ} {a b d e lowest : ℕ} (h : Searched m a b d e
 
   -- no first part is longer than the row's longest length
   none_above : (f : ℕ) → longest_at w m d a < f → tells m w a d f ≡ true → ⊥
-  none_above f l p = true≢false (sym p ∙ sym (told-above w m a d f (longest_at w m d a) 0 (omega arith) refl l))
+  none_above f l p = true≢false (sym p ∙ sym (told-above w m a d f (longest_at w m d a) (λ z. omega (arith, l, z)) refl l))
 
-  pub search-start : {x c : ℕ} → x ≡ longest_at w m d a → c ≡ e - (e - x) → Searching m w a b d e lowest c
+  pub search-start : {x c : ℕ} → x ≡ longest_at w m d a → c ≡ min e x → Searching m w a b d e lowest c
   search-start p q =
       record {
         above = ⊎_elim (λ (l : longest_at w m d a < h.some). absurd (none_above h.some l h.has_cut.front))

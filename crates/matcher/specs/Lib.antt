@@ -4,3 +4,4 @@ pub mod Calls
 pub mod Demands
 -- What only the functions and proofs inside go by.
 pub mod Walks
+pub mod Parts

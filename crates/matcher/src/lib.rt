@@ -9,52 +9,54 @@ ghost use Rattle.table.specs.Records.{count, kind_at, is_letter};
 ghost use Rattle.table.specs.Answers.{says, gives};
 ghost use Rattle.rows.specs.Layout.{area_size};
 ghost use Rattle.reading.specs.Codec.{record_with, encode_below, encode};
+ghost use Rattle.reading.specs.ValueKinds.{value_number};
 ghost use Rattle.matcher.specs.Calls.{read_says, read_leaves, keeps_work, PosixWritten, Unbeaten};
 ghost use Rattle.matcher.specs.Demands.{Setting, NoneOutranks};
-ghost use Rattle.matcher.specs.Walks.{most_bytes, Here, Room, Stored, Searched, LongestCut, Given, Walked, Counted, Answered};
+ghost use Rattle.matcher.specs.Walks.{most_bytes, Room, Stored, Searched, LongestCut, Counted, Answered};
+ghost use Rattle.matcher.specs.Parts.{HereIn, GivenIn, WalkedIn};
 
-use reading::Place;
-use table::{Answer, Refusal};
+use reading::{Place, ValueKind};
+use table::{Kind, Refusal, Rules};
 
-// Stores a record at a position of the buffer, or only counts it, and returns the position behind it.
-fn put(
-    out: &mut [u8],
-    at: usize,
-    kind: u8,
-    argument: u8,
-    size: usize,
-    number: usize,
-    writing: bool,
-) -> usize
-    requires room { Room (record_with kind argument size number) out.old at writing }
-    requires bytes { (size < 256) × (number < 256) }
-    ensures { Stored (record_with kind argument size number) out.old at writing out.new result }
-{
-    let next = at + Place::RECORD;
-    if writing {
-        reading::store_record(out, at, kind, argument, size, number);
-        return next;
-    }
-    next
+// A part of the line for a record to read: the record's number, and the first `size` of the line's last `left` bytes.
+#[derive(Clone, Copy)]
+pub struct Part {
+    pub record: usize,
+    pub left: usize,
+    pub size: usize,
 }
 
-// The longest first part, of at least `lowest` bytes, that record a spells and whose rest record b spells.
-fn longest_first_part(
-    work: &[u8],
-    m: usize,
-    a: usize,
-    b: usize,
-    d: usize,
-    e: usize,
-    lowest: usize,
-) -> usize
-    requires { Searched m a b d e lowest work.now }
-    ensures { LongestCut m work.now a b d e lowest result }
+// What a walk goes by: rules, a line, and the work area that is filled for both.
+#[derive(Drop)]
+pub struct Filled<'a> {
+    pub table: &'a Rules<'a>,
+    pub line: &'a [u8],
+    pub work: &'a [u8],
+}
+
+// Stores the record of a part's reading at a position of the buffer, or only counts it, and returns the position behind it.
+fn put(out: &mut [u8], at: usize, kind: ValueKind, argument: u8, part: Part, writing: bool) -> usize
+    requires room { Room (record_with (value_number kind) argument part.size part.record) out.old at writing }
+    requires bytes { (part.size < 256) × (part.record < 256) }
+    ensures { Stored (record_with (value_number kind) argument part.size part.record) out.old at writing out.new result }
 {
-    let mut cut = rows::lesser(e, rows::longest(work, m, d, a));
+    if writing {
+        reading::store_record(out, at, kind.number(), argument, part.size, part.record);
+    }
+    at + Place::RECORD
+}
+
+// The longest first part, of at least `lowest` bytes, that the part's record spells and whose rest record b spells.
+fn longest_first_part(work: &[u8], m: usize, part: Part, b: usize, lowest: usize) -> usize
+    requires { Searched m part.record b part.left part.size lowest work.now }
+    ensures { LongestCut m work.now part.record b part.left part.size lowest result }
+{
+    let mut cut = part
+        .size
+        .min(rows::longest(work, m, part.left, part.record));
     while lowest < cut {
-        if rows::tell(work, m, a, d, cut) {
-            if rows::tell(work, m, b, d - cut, e - cut) {
+        if rows::tell(work, m, part.record, part.left, cut) {
+            if rows::tell(work, m, b, part.left - cut, part.size - cut) {
                 return cut;
             }
         }
@@ -64,19 +66,19 @@ fn longest_first_part(
 }
 
 // How many iterations a Star's reading has, by its longest first parts.
-fn count_iterations(table: &[u8], k: usize, line: &[u8], work: &[u8], d: usize, e: usize) -> usize
-    requires here { Here table.now line.now work.now k d e }
-    requires area { area_size (count table.now) (length line.now) ≤ length work.now }
-    requires kind { kind_at table.now k ≡ 5 }
-    ensures { Counted table.now line.now k d e result }
+fn count_iterations(area: &Filled, part: Part) -> usize
+    requires here { HereIn area.now part }
+    requires area { area_size (count area.now.table.now) (length area.now.line.now) ≤ length area.now.work.now }
+    requires star { kind_at area.now.table.now part.record ≡ 5 }
+    ensures { Counted area.now.table.now area.now.line.now part.record part.left part.size result }
 {
-    let m = table.len() / 4;
-    let a = table::a_at(table, k) as usize;
-    let mut left = d;
-    let mut size = e;
+    let m = area.table.count();
+    let record = area.table.a_at(part.record) as usize;
+    let mut left = part.left;
+    let mut size = part.size;
     let mut times = 0;
     while 0 < size {
-        let first = longest_first_part(work, m, a, k, left, size, 1);
+        let first = longest_first_part(area.work, m, Part { record, left, size }, part.record, 1);
         left -= first;
         size -= first;
         times += 1;
@@ -85,155 +87,100 @@ fn count_iterations(table: &[u8], k: usize, line: &[u8], work: &[u8], d: usize, 
 }
 
 // An Empty's part: Void.
-fn walk_empty(
-    table: &[u8],
-    k: usize,
-    line: &[u8],
-    work: &[u8],
-    d: usize,
-    e: usize,
-    out: &mut [u8],
-    at: usize,
-    writing: bool,
-) -> usize
-    requires given { Given (encode table.now k) table.now line.now work.now k d e out.old at writing }
-    requires k_value { kind_at table.now k ≡ 1 }
-    ensures { Walked (encode table.now k) table.now line.now k d e out.old at writing out.new result }
+fn walk_empty(area: &Filled, part: Part, out: &mut [u8], at: usize, writing: bool) -> usize
+    requires given { GivenIn (encode area.now.table.now part.record) area.now part out.old at writing }
+    requires empty { kind_at area.now.table.now part.record ≡ 1 }
+    ensures { WalkedIn (encode area.now.table.now part.record) area.now part out.old at writing out.new result }
 {
-    put(out, at, reading::VOID, 0, e, k, writing)
+    put(out, at, ValueKind::Void, 0, part, writing)
 }
 
 // A letter's part: Byte.
-fn walk_letter(
-    table: &[u8],
-    k: usize,
-    line: &[u8],
-    work: &[u8],
-    d: usize,
-    e: usize,
-    out: &mut [u8],
-    at: usize,
-    writing: bool,
-) -> usize
-    requires given { Given (encode table.now k) table.now line.now work.now k d e out.old at writing }
-    requires k_value { is_letter table.now k ≡ true }
-    ensures { Walked (encode table.now k) table.now line.now k d e out.old at writing out.new result }
+fn walk_letter(area: &Filled, part: Part, out: &mut [u8], at: usize, writing: bool) -> usize
+    requires given { GivenIn (encode area.now.table.now part.record) area.now part out.old at writing }
+    requires letter { is_letter area.now.table.now part.record ≡ true }
+    ensures { WalkedIn (encode area.now.table.now part.record) area.now part out.old at writing out.new result }
 {
-    let c = line[line.len() - d];
-    put(out, at, reading::BYTE, c, e, k, writing)
+    let c = area.line[area.line.len() - part.left];
+    put(out, at, ValueKind::Byte, c, part, writing)
 }
 
 // An Or's part: Left where the first child spells it, otherwise Right.
 #[cycle(walking)]
-fn walk_or(
-    table: &[u8],
-    k: usize,
-    line: &[u8],
-    work: &[u8],
-    d: usize,
-    e: usize,
-    out: &mut [u8],
-    at: usize,
-    writing: bool,
-) -> usize
-    requires given { Given (encode table.now k) table.now line.now work.now k d e out.old at writing }
-    requires k_value { kind_at table.now k ≡ 3 }
-    ensures { Walked (encode table.now k) table.now line.now k d e out.old at writing out.new result }
+fn walk_or(area: &Filled, part: Part, out: &mut [u8], at: usize, writing: bool) -> usize
+    requires given { GivenIn (encode area.now.table.now part.record) area.now part out.old at writing }
+    requires or { kind_at area.now.table.now part.record ≡ 3 }
+    ensures { WalkedIn (encode area.now.table.now part.record) area.now part out.old at writing out.new result }
 {
-    let m = table.len() / 4;
-    let a = table::a_at(table, k) as usize;
-    let b = table::b_at(table, k) as usize;
-    if rows::tell(work, m, a, d, e) {
-        let next = put(out, at, reading::LEFT, 0, e, k, writing);
-        return walk(table, a, line, work, d, e, out, next, writing);
+    let m = area.table.count();
+    let a = area.table.a_at(part.record) as usize;
+    let b = area.table.b_at(part.record) as usize;
+    if rows::tell(area.work, m, a, part.left, part.size) {
+        let next = put(out, at, ValueKind::Left, 0, part, writing);
+        return walk(area, Part { record: a, ..part }, out, next, writing);
     }
-    let next = put(out, at, reading::RIGHT, 0, e, k, writing);
-    walk(table, b, line, work, d, e, out, next, writing)
+    let next = put(out, at, ValueKind::Right, 0, part, writing);
+    walk(area, Part { record: b, ..part }, out, next, writing)
 }
 
 // A Seq's part: the longest first part, then the rest.
 #[cycle(walking)]
-fn walk_seq(
-    table: &[u8],
-    k: usize,
-    line: &[u8],
-    work: &[u8],
-    d: usize,
-    e: usize,
-    out: &mut [u8],
-    at: usize,
-    writing: bool,
-) -> usize
-    requires given { Given (encode table.now k) table.now line.now work.now k d e out.old at writing }
-    requires k_value { kind_at table.now k ≡ 4 }
-    ensures { Walked (encode table.now k) table.now line.now k d e out.old at writing out.new result }
+fn walk_seq(area: &Filled, part: Part, out: &mut [u8], at: usize, writing: bool) -> usize
+    requires given { GivenIn (encode area.now.table.now part.record) area.now part out.old at writing }
+    requires seq { kind_at area.now.table.now part.record ≡ 4 }
+    ensures { WalkedIn (encode area.now.table.now part.record) area.now part out.old at writing out.new result }
 {
-    let m = table.len() / 4;
-    let a = table::a_at(table, k) as usize;
-    let b = table::b_at(table, k) as usize;
-    let first = longest_first_part(work, m, a, b, d, e, 0);
-    let next = put(out, at, reading::BOTH, 0, e, k, writing);
-    let middle = walk(table, a, line, work, d, first, out, next, writing);
-    walk(
-        table,
-        b,
-        line,
-        work,
-        d - first,
-        e - first,
-        out,
-        middle,
-        writing,
-    )
+    let m = area.table.count();
+    let a = area.table.a_at(part.record) as usize;
+    let b = area.table.b_at(part.record) as usize;
+    let first = longest_first_part(area.work, m, Part { record: a, ..part }, b, 0);
+    let next = put(out, at, ValueKind::Both, 0, part, writing);
+    let front = Part {
+        record: a,
+        size: first,
+        ..part
+    };
+    let rest = Part {
+        record: b,
+        left: part.left - first,
+        size: part.size - first,
+    };
+    let middle = walk(area, front, out, next, writing);
+    walk(area, rest, out, middle, writing)
 }
 
 // A Star's part: the count, then the iterations.
 #[cycle(walking)]
-fn walk_star(
-    table: &[u8],
-    k: usize,
-    line: &[u8],
-    work: &[u8],
-    d: usize,
-    e: usize,
-    out: &mut [u8],
-    at: usize,
-    writing: bool,
-) -> usize
-    requires given { Given (encode table.now k) table.now line.now work.now k d e out.old at writing }
-    requires k_value { kind_at table.now k ≡ 5 }
-    ensures { Walked (encode table.now k) table.now line.now k d e out.old at writing out.new result }
+fn walk_star(area: &Filled, part: Part, out: &mut [u8], at: usize, writing: bool) -> usize
+    requires given { GivenIn (encode area.now.table.now part.record) area.now part out.old at writing }
+    requires star { kind_at area.now.table.now part.record ≡ 5 }
+    ensures { WalkedIn (encode area.now.table.now part.record) area.now part out.old at writing out.new result }
 {
-    let times = count_iterations(table, k, line, work, d, e);
-    let next = put(out, at, reading::STARS, times as u8, e, k, writing);
-    walk_iterations(table, k, line, work, d, e, out, next, writing)
+    let times = count_iterations(area, part);
+    let next = put(out, at, ValueKind::Stars, times as u8, part, writing);
+    walk_iterations(area, part, out, next, writing)
 }
 
 // A Star's iterations, each the longest first part of what is left.
 #[cycle(walking)]
-fn walk_iterations(
-    table: &[u8],
-    k: usize,
-    line: &[u8],
-    work: &[u8],
-    d: usize,
-    e: usize,
-    out: &mut [u8],
-    at: usize,
-    writing: bool,
-) -> usize
-    requires given { Given (encode_below table.now k) table.now line.now work.now k d e out.old at writing }
-    requires k_value { kind_at table.now k ≡ 5 }
-    ensures { Walked (encode_below table.now k) table.now line.now k d e out.old at writing out.new result }
+fn walk_iterations(area: &Filled, part: Part, out: &mut [u8], at: usize, writing: bool) -> usize
+    requires given { GivenIn (encode_below area.now.table.now part.record) area.now part out.old at writing }
+    requires star { kind_at area.now.table.now part.record ≡ 5 }
+    ensures { WalkedIn (encode_below area.now.table.now part.record) area.now part out.old at writing out.new result }
 {
-    let m = table.len() / 4;
-    let a = table::a_at(table, k) as usize;
-    let mut left = d;
-    let mut size = e;
+    let m = area.table.count();
+    let record = area.table.a_at(part.record) as usize;
+    let mut left = part.left;
+    let mut size = part.size;
     let mut next = at;
     while 0 < size {
-        let cut = longest_first_part(work, m, a, k, left, size, 1);
-        next = walk(table, a, line, work, left, cut, out, next, writing);
+        let cut = longest_first_part(area.work, m, Part { record, left, size }, part.record, 1);
+        let first = Part {
+            record,
+            left,
+            size: cut,
+        };
+        next = walk(area, first, out, next, writing);
         left -= cut;
         size -= cut;
     }
@@ -242,28 +189,17 @@ fn walk_iterations(
 
 // Stores, or only counts, the records of a part's POSIX reading, and returns the position behind them.
 #[cycle(walking)]
-fn walk(
-    table: &[u8],
-    k: usize,
-    line: &[u8],
-    work: &[u8],
-    d: usize,
-    e: usize,
-    out: &mut [u8],
-    at: usize,
-    writing: bool,
-) -> usize
-    requires { Given (encode table.now k) table.now line.now work.now k d e out.old at writing }
-    ensures { Walked (encode table.now k) table.now line.now k d e out.old at writing out.new result }
+fn walk(area: &Filled, part: Part, out: &mut [u8], at: usize, writing: bool) -> usize
+    requires { GivenIn (encode area.now.table.now part.record) area.now part out.old at writing }
+    ensures { WalkedIn (encode area.now.table.now part.record) area.now part out.old at writing out.new result }
 {
-    let kind = table::kind_at(table, k);
-    match kind {
-        table::EMPTY => walk_empty(table, k, line, work, d, e, out, at, writing),
-        table::RANGE | table::OTHER => walk_letter(table, k, line, work, d, e, out, at, writing),
-        table::OR => walk_or(table, k, line, work, d, e, out, at, writing),
-        table::SEQ => walk_seq(table, k, line, work, d, e, out, at, writing),
-        table::STAR => walk_star(table, k, line, work, d, e, out, at, writing),
-        _ => at,
+    match area.table.kind_at(part.record) {
+        Kind::Nothing => at,
+        Kind::Empty => walk_empty(area, part, out, at, writing),
+        Kind::Range | Kind::Other => walk_letter(area, part, out, at, writing),
+        Kind::Or => walk_or(area, part, out, at, writing),
+        Kind::Seq => walk_seq(area, part, out, at, writing),
+        Kind::Star => walk_star(area, part, out, at, writing),
     }
 }
 
@@ -279,28 +215,34 @@ fn most_bytes(m: usize, n: usize) -> usize
     Place::RECORD * (m * n)
 }
 
-// The answer for a line that the start record spells. Where the buffer holds the largest reading there can be, its reading is written at
+// The answer for a line that the part's record spells as a whole. Where the buffer holds the largest reading there can be, its reading is written at
 // once; otherwise it is counted first and written where the buffer holds it.
-fn write_reading(table: &[u8], start: usize, line: &[u8], work: &[u8], out: &mut [u8]) -> Answer
-    requires here { Here table.now line.now work.now start (length line.now) (length line.now) }
-    requires area { area_size (count table.now) (length line.now) ≤ length work.now }
-    ensures { Answered table.now line.now start out.old out.new (says result) }
+fn write_reading(area: &Filled, line: Part, out: &mut [u8]) -> Result<usize, Refusal>
+    requires here { HereIn area.now line }
+    requires whole { (line.left ≡ length area.now.line.now) × (line.size ≡ length area.now.line.now) }
+    requires area { area_size (count area.now.table.now) (length area.now.line.now) ≤ length area.now.work.now }
+    ensures { Answered area.now.table.now area.now.line.now line.record out.old out.new (says result) }
 {
-    let n = line.len();
-    if most_bytes(table.len() / 4, n) <= out.len() {
-        let end = walk(table, start, line, work, n, n, out, 0, true);
-        return Answer::Done(end / Place::RECORD);
+    if most_bytes(area.table.count(), line.size) <= out.len() {
+        let end = walk(area, line, out, 0, true);
+        return Ok(end / Place::RECORD);
     }
-    let need = walk(table, start, line, work, n, n, out, 0, false);
+    let need = walk(area, line, out, 0, false);
     if out.len() < need {
-        return Answer::Refused(Refusal::Buffer(need));
+        return Err(Refusal::Buffer(need));
     }
-    let end = walk(table, start, line, work, n, n, out, 0, true);
-    Answer::Done(end / Place::RECORD)
+    let end = walk(area, line, out, 0, true);
+    Ok(end / Place::RECORD)
 }
 
 // Read: writes the POSIX reading of the line by the start record to the front of the buffer and returns its record count.
-pub fn read(table: &[u8], start: usize, line: &[u8], work: &mut [u8], out: &mut [u8]) -> Answer
+pub fn read(
+    table: &[u8],
+    start: usize,
+    line: &[u8],
+    work: &mut [u8],
+    out: &mut [u8],
+) -> Result<usize, Refusal>
     ensures answer { says result ≡ read_says table.now start line.now (length work.old) (length out.old) }
     ensures buffer { out.new ≡ read_leaves table.now start line.now (length work.old) out.old }
     ensures work { keeps_work
@@ -313,25 +255,32 @@ pub fn read(table: &[u8], start: usize, line: &[u8], work: &mut [u8], out: &mut 
     ensures rivals { Setting table.now start line.now (length work.old)
         → NoneOutranks (λ x. says result ≡ x) table.now start line.now out.old out.new }
 {
-    let admitted = reading::admit(table, start);
-    if let Answer::Refused(why) = admitted {
-        return Answer::Refused(why);
-    }
-    let m = table.len() / 4;
+    let rules = reading::admit(table, start)?;
+    let m = rules.count();
     let n = line.len();
     if 255 < n {
-        return Answer::Refused(Refusal::Line);
+        return Err(Refusal::Line);
     }
     let size = rows::area_size(m, n);
     if work.len() < size {
-        return Answer::Refused(Refusal::Work);
+        return Err(Refusal::Work);
     }
-    if !edges::may_spell(table, start, line) {
-        return Answer::Refused(Refusal::NoReading);
+    if !edges::may_spell(&rules, start, line) {
+        return Err(Refusal::NoReading);
     }
-    area::fill(table, line, work);
+    area::fill(&rules, line, work);
     if !rows::tell(work, m, start, n, n) {
-        return Answer::Refused(Refusal::NoReading);
+        return Err(Refusal::NoReading);
     }
-    write_reading(table, start, line, work, out)
+    let whole = Part {
+        record: start,
+        left: n,
+        size: n,
+    };
+    let area = Filled {
+        table: &rules,
+        line,
+        work,
+    };
+    write_reading(&area, whole, out)
 }

@@ -6,8 +6,7 @@ use mathlib.Core.List.{List, [], ◌∷◌, ◌++◌}
 use native.Mathlib.Omega.{arith}
 use lib.ListN.{length, drop}
 use Rattle.table.specs.declared.Refusal.{Refusal}
-use Rattle.table.specs.declared.Answer.{Answer}
-use Rattle.table.specs.declared.Answer.TheVariants.{Done, Refused}
+use Rattle.std.specs.Prelude.{Result, Ok, Err}
 use Rattle.table.specs.Answers.{Said, refuses, refusal, says}
 use Rattle.table.specs.Checked.{checked}
 use Rattle.reading.proofs.Admission.{refusal-numbers}
@@ -25,7 +24,7 @@ abbrev pub NumberOf : Refusal → ℕ → Type 0
 NumberOf why n = (i d : ℕ) → refusal why ≡ refuses i d → n ≡ i
 
 refused-number :
-    {r : Answer} {why : Refusal} {said : Said} {n : ℕ} → says r ≡ said → r ≡ Refused why → NumberOf why n → (d : ℕ) × (said ≡ refuses n d)
+    {r : Result ℕ Refusal} {why : Refusal} {said : Said} {n : ℕ} → says r ≡ said → r ≡ Err why → NumberOf why n → (d : ℕ) × (said ≡ refuses n d)
 refused-number {r} {why} {said} {n} e f h =
     let x : (i : ℕ) × (d : ℕ) × (refusal why ≡ refuses i d) = refusal-numbers why in
     (x.1, sym e ∙ ap says f ∙ x.2 ∙ ap (λ (i : ℕ). refuses i x.1) (sym (h x.0 x.1 x.2)))
@@ -38,12 +37,12 @@ pub printed : {a b : List ℕ} {n : ℕ} {xs text : List ℕ} (most : ℕ) → W
 printed most w l h e = (l, wrote-front (wrote_as w e) (omega arith))
 
 -- a table
-pub table-passes : (t a : List ℕ) {r : Answer} {m : ℕ} → says r ≡ checked t → r ≡ Done m → Printed a a 64 0 (table_report t)
+pub table-passes : (t a : List ℕ) {r : Result ℕ Refusal} {m : ℕ} → says r ≡ checked t → r ≡ Ok m → Printed a a 64 0 (table_report t)
 unfolding table_report
-table-passes t a e f = let g : checked t ≡ says (Done _) = sym e ∙ ap says f in rw g (omega arith, (refl, refl))
+table-passes t a e f = let g : checked t ≡ says (Ok _) = sym e ∙ ap says f in rw g (omega arith, (refl, refl))
 
 pub table-refused :
-    (t a b : List ℕ) {r : Answer} {why : Refusal} {n m : ℕ} → says r ≡ checked t → r ≡ Refused why → NumberOf why n
+    (t a b : List ℕ) {r : Result ℕ Refusal} {why : Refusal} {n m : ℕ} → says r ≡ checked t → r ≡ Err why → NumberOf why n
     → Wrote a b 0 m (table_word ++ (refused_word ++ (decimal n ++ (10 ∷ [])))) → m ≤ 64 → 64 ≤ length a → Printed a b 64 m (table_report t)
 unfolding table_report
 table-refused t a b {r} {why} {n} {m} e f h w l room = printed 64 w l room (sym (ap table_said (refused-number e f h).1))
@@ -58,7 +57,7 @@ module _ (t : List ℕ) (k : ℕ) (s : List ℕ) {work room space : ℕ} (number
       ∙ ap (λ (i : ℕ). lex_says t k s i reading_length token_length) p)
 
   pub line_refused :
-      {r : Answer} {why : Refusal} {n m : ℕ} {a b : List ℕ} → says r ≡ lex_says t k s work room space → r ≡ Refused why → NumberOf why n
+      {r : Result ℕ Refusal} {why : Refusal} {n m : ℕ} {a b : List ℕ} → says r ≡ lex_says t k s work room space → r ≡ Err why → NumberOf why n
       → Wrote a b 0 m (refused_line number n)
       → m ≤ 64
       → 32768 ≤ length a
@@ -67,7 +66,7 @@ module _ (t : List ℕ) (k : ℕ) (s : List ℕ) {work room space : ℕ} (number
 
   -- the line's own line and the tokens'
   pub line_read :
-      {r : Answer} {n at m : ℕ} {a b c : List ℕ} → says r ≡ lex_says t k s work room space → r ≡ Done n → n ≡ length (tokens_of t k s)
+      {r : Result ℕ Refusal} {n at m : ℕ} {a b c : List ℕ} → says r ≡ lex_says t k s work room space → r ≡ Ok n → n ≡ length (tokens_of t k s)
       → Wrote a b 0 at (line_with number ok_word n)
       → Wrote b c at m (token_lines (tokens_of t k s))
       → m ≤ 32768

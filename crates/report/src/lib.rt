@@ -12,7 +12,7 @@ ghost use Rattle.report.specs.Report.{token_line, token_lines, refused_line, wor
 ghost use Rattle.report.specs.Writes.{line_with};
 
 use printing::{put_byte, put_decimal, put_text};
-use table::{Answer, Refusal};
+use table::Refusal;
 
 // Writes a token's line at a position and returns the next position.
 fn put_token(out: &mut [u8], at: usize, tag: u8, offset: u8, size: u8) -> usize
@@ -36,8 +36,7 @@ fn put_tokens(out: &mut [u8], at: usize, tokens: &[u8], count: usize) -> usize
         → Wrote out.old out.new at result (token_lines xs) }
 {
     let mut next = at;
-    let mut i = 0;
-    while i < count {
+    for i in 0..count {
         next = put_token(
             out,
             next,
@@ -45,7 +44,6 @@ fn put_tokens(out: &mut [u8], at: usize, tokens: &[u8], count: usize) -> usize
             tokens[3 * i + 1],
             tokens[3 * i + 2],
         );
-        i += 1;
     }
     next
 }
@@ -96,8 +94,7 @@ fn put_table(out: &mut [u8], refusal: u64) -> usize
 fn refusal_number(why: Refusal) -> u64
     ensures { (n d : ℕ) → refusal why ≡ refuses n d → result ≡ n }
 {
-    let numbers = table::numbers_of(why);
-    numbers.number as u64
+    why.number() as u64
 }
 
 // Writes what is printed for a line to the front of the buffer and returns its length.
@@ -122,11 +119,11 @@ pub fn report_line(
         ++ drop (length (line_report table.now start number line.now)) out.old }
 {
     match lexer::lex(table, start, line, work, reading, tokens) {
-        Answer::Done(count) => {
+        Ok(count) => {
             let at = put_ok(out, number, count as u64);
             put_tokens(out, at, tokens, count)
         }
-        Answer::Refused(why) => put_refused(out, number, refusal_number(why)),
+        Err(why) => put_refused(out, number, refusal_number(why)),
     }
 }
 
@@ -139,8 +136,8 @@ pub fn report_table(table: &[u8], out: &mut [u8]) -> usize
         ≡ table_report table.now ++ drop (length (table_report table.now)) out.old }
 {
     match table::check(table) {
-        Answer::Done(_) => 0,
-        Answer::Refused(why) => put_table(out, refusal_number(why)),
+        Ok(_) => 0,
+        Err(why) => put_table(out, refusal_number(why)),
     }
 }
 

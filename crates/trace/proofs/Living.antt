@@ -42,7 +42,7 @@ facts-number false false = refl
 pub known-number : (heard : Heard) (f : Facts) → heard ≡ Known f → bool_byte f.reads + 2 * bool_byte f.extends ≡ number (heard_says heard)
 known-number heard f e = rw e (facts-number f.reads f.extends)
 
-pub refused-small : (heard : Heard) (why : Refusal) → heard ≡ Refused why → Small (heard_says heard) → Small (refusal why)
+pub refused-small : (heard : Heard) (why : Refusal) → heard ≡ Err why → Small (heard_says heard) → Small (refusal why)
 refused-small heard why e h = subst (λ (x : Heard). Small (heard_says x)) e h
 
 -- two facts

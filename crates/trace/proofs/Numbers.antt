@@ -5,19 +5,18 @@ use mathlib.Core.Path.{◌≡◌, sym, ap, ap₂, subst}
 use native.Mathlib.Omega.{arith}
 use Rattle.table.specs.Answers.{Said, gives, refuses, refusal, says, number}
 use Rattle.table.specs.declared.Refusal.{Refusal}
-use Rattle.table.specs.declared.Answer.{Answer}
-use Rattle.table.specs.declared.Answer.TheVariants.{Refused}
+use Rattle.std.specs.Prelude.{Result, Ok, Err}
 use Rattle.trace.specs.Numbers.{Small}
 
 -- a refusal's number and detail are small where the answer is
 pub refusal-small :
-    (a : Answer) (why : Refusal) (n d : ℕ) → Small (says a) → a ≡ Refused why → refuses n d ≡ refusal why → Small (refuses n d)
+    (a : Result ℕ Refusal) (why : Refusal) (n d : ℕ) → Small (says a) → a ≡ Err why → refuses n d ≡ refusal why → Small (refuses n d)
 refusal-small a why n d s e f =
-    subst (λ (x : Said). Small x) (sym f) (subst (λ (b : Answer). Small (says b)) e s)
+    subst (λ (x : Said). Small x) (sym f) (subst (λ (b : Result ℕ Refusal). Small (says b)) e s)
 
 -- and make up its number
 pub refusal-number :
-    (a : Answer) (why : Refusal) (n d : ℕ) → a ≡ Refused why → refuses n d ≡ refusal why → n * 4294967296 + d ≡ number (says a)
+    (a : Result ℕ Refusal) (why : Refusal) (n d : ℕ) → a ≡ Err why → refuses n d ≡ refusal why → n * 4294967296 + d ≡ number (says a)
 refusal-number a why n d e f = rw e (ap number f)
 
 -- two answers of the allowed size with one number are one answer

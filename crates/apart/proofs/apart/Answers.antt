@@ -7,8 +7,8 @@ use Rattle.reading.proofs.Admission.{Admitted, admitted}
 use Rattle.apart.proofs.Outcomes.{outcome-refused, record-there, outcome-other, children-inside, outcome-or}
 use Rattle.apart.proofs.apart.Goals as goal
 
-pub returns-in-Refused : goal.returns-in-Refused
-returns-in-Refused c = let x = outcome-refused c.args.table.now c.args.k _ _ c.admit-admitted.ensures.answer c.in-Refused.is in record { equation = x.0; yes = x.1 }
+pub returns-in-Err : goal.returns-in-Err
+returns-in-Err c = let x = outcome-refused c.args.table.now c.args.k _ _ c.admit-admitted.ensures.answer c.in-Err.is in record { equation = x.0; yes = x.1 }
 
 pub kind_at-requires : goal.kind_at-requires
 kind_at-requires c = record-there _ _ (admitted _ _ _ _ c.admit-admitted.ensures.answer c.in_default.is)

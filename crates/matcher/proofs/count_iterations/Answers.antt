@@ -1,20 +1,21 @@
 -- `matcher::count_iterations` meets its contract: what is counted and the iterations of what is left are those of the whole part.
 -- Assumes nothing.
 use native.Mathlib.Omega.{arith}
-use Rattle.matcher.proofs.Positions.{record-there, star-searched}
+use Rattle.matcher.proofs.Positions.{star-searched}
 use Rattle.matcher.proofs.Iterating.{counting-none, counting_more, counting-end}
 use Rattle.matcher.proofs.count_iterations.Goals as goal
 
-pub a_at-a-requires : goal.a_at-a-requires
-a_at-a-requires c = record-there c.requires.here
+pub a_at-record-requires : goal.a_at-record-requires
+a_at-record-requires c = c.requires.here.record_inside
 
 pub loop-size-init : goal.loop-size-init
 loop-size-init c = counting-none c.requires.here
 
 pub longest_first_part-first-requires : goal.longest_first_part-first-requires
 longest_first_part-first-requires c =
-    star-searched c.loop-size.invariant.here c.a_at-a.ensures c.requires.kind _ (omega arith)
-    (omega (arith, c.loop-size-test.true)) c.requires.area
+    rw c.count-m.ensures.count
+    (star-searched c.loop-size.invariant.here c.a_at-record.ensures c.requires.star _ (omega arith)
+    (omega (arith, c.loop-size-test.true)) c.requires.area)
 
 pub overflow_sub-left : goal.overflow_sub-left
 overflow_sub-left c = omega (arith, c.longest_first_part-first.ensures.found.inside, c.loop-size.invariant.here.size)
@@ -30,8 +31,8 @@ loop-size-smaller c = omega (arith, c.longest_first_part-first.ensures.found.ins
 
 pub loop-size-preserved : goal.loop-size-preserved
 loop-size-preserved c =
-    counting_more c.loop-size.invariant c.a_at-a.ensures c.requires.kind
-    (omega (arith, c.longest_first_part-first.ensures.found.above)) c.longest_first_part-first.ensures
+    counting_more c.loop-size.invariant c.a_at-record.ensures c.requires.star
+    (omega (arith, c.longest_first_part-first.ensures.found.above)) (rw c.count-m.ensures.count at c.longest_first_part-first.ensures)
 
 pub returns : goal.returns
-returns c = counting-end c.loop-size.invariant c.a_at-a.ensures c.requires.kind (omega (arith, c.loop-size-test.false))
+returns c = counting-end c.loop-size.invariant c.a_at-record.ensures c.requires.star (omega (arith, c.loop-size-test.false))

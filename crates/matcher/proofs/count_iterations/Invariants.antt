@@ -4,7 +4,7 @@ use Rattle.matcher.proofs.Iterating.{Counting}
 use Rattle.matcher.proofs.count_iterations.Given as goal
 
 abbrev pub invariant-loop-size : goal.invariant-loop-size
-invariant-loop-size l = Counting l.table l.line l.work l.k l.d l.e l.left l.size l.times
+invariant-loop-size l = Counting l.area.table.now l.area.line.now l.area.work.now l.part.record l.part.left l.part.size l.left l.size l.times
 
 abbrev pub decreases-loop-size : goal.decreases-loop-size
 decreases-loop-size l = l.size

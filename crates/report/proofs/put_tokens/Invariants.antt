@@ -9,5 +9,3 @@ use Rattle.report.proofs.put_tokens.Given as goal
 abbrev pub invariant-loop-i : goal.invariant-loop-i
 invariant-loop-i l = (l.i ≤ l.count) × (l.next ≤ l.at + 12 * l.i) × Wrote l.initial.out l.out l.at l.next (token_lines (first_tokens l.i l.tokens))
 
-abbrev pub decreases-loop-i : goal.decreases-loop-i
-decreases-loop-i l = l.count - l.i

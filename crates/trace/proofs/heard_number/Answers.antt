@@ -16,10 +16,10 @@ overflow_add-result c =
     (arith, byte-bound c.in-Known.facts.reads, byte-bound c.in-Known.facts.extends)
 
 pub number_of-requires : goal.number_of-requires
-number_of-requires c = refused-small _ c.in-Refused.why c.in-Refused.is c.requires
+number_of-requires c = refused-small _ c.in-Err.why c.in-Err.is c.requires
 
 pub returns-in-Known : goal.returns-in-Known
 returns-in-Known c = known-number _ c.in-Known.facts c.in-Known.is
 
-pub returns-in-Refused : goal.returns-in-Refused
-returns-in-Refused c = c.number_of.ensures ∙ ap (λ (v : Heard). number (heard_says v)) (sym c.in-Refused.is)
+pub returns-in-Err : goal.returns-in-Err
+returns-in-Err c = c.number_of.ensures ∙ ap (λ (v : Heard). number (heard_says v)) (sym c.in-Err.is)

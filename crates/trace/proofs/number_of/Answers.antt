@@ -7,15 +7,15 @@ pub overflow_mul-result : goal.overflow_mul-result
 overflow_mul-result c = omega (
   arith,
   (
-      refusal-small _ _ _ _ c.requires c.in-Refused.is c.numbers_of-numbers.ensures),
+      refusal-small _ _ _ _ c.requires c.in-Err.is c.numbers_of-numbers.ensures),
 )
 
 pub overflow_add-result : goal.overflow_add-result
 overflow_add-result c = omega (
   arith,
   (
-      refusal-small _ _ _ _ c.requires c.in-Refused.is c.numbers_of-numbers.ensures),
+      refusal-small _ _ _ _ c.requires c.in-Err.is c.numbers_of-numbers.ensures),
 )
 
-pub returns-in-Refused : goal.returns-in-Refused
-returns-in-Refused c = refusal-number _ _ _ _ c.in-Refused.is c.numbers_of-numbers.ensures
+pub returns-in-Err : goal.returns-in-Err
+returns-in-Err c = refusal-number _ _ _ _ c.in-Err.is c.numbers_of-numbers.ensures

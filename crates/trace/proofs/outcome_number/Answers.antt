@@ -30,8 +30,8 @@ overflow_add-result-in-OneLine-2 c = omega (arith, line_small c.args.outcome c.r
 pub number_of-requires-in-WholePage : goal.number_of-requires-in-WholePage
 number_of-requires-in-WholePage c = told-small c.args.outcome c.requires the_page (refusal c.in-WholePage.why) (ap outcome_says c.in-WholePage.is)
 
-pub returns-in-Done : goal.returns-in-Done
-returns-in-Done c = told-page c.args.outcome c.requires (gives c.in-Done.n) _ (ap outcome_says c.in-Done.is) refl
+pub returns-in-Ok : goal.returns-in-Ok
+returns-in-Ok c = told-page c.args.outcome c.requires (gives c.in-Ok.n) _ (ap outcome_says c.in-Ok.is) refl
 
 pub returns-in-LineRules : goal.returns-in-LineRules
 returns-in-LineRules c = told-number c.args.outcome c.requires 72057594037927936 line_rules (refusal c.in-LineRules.why) _ (ap outcome_says c.in-LineRules.is) c.number_of.ensures refl

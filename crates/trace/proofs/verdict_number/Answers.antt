@@ -9,8 +9,8 @@ use Rattle.trace.proofs.verdict_number.Goals as goal
 
 pub number_of-requires : goal.number_of-requires
 number_of-requires c =
-    refusal-encodable c.in-Refused.why
-    (subst (λ (v : Verdict). Encodable (verdict_says v)) c.in-Refused.is c.requires)
+    refusal-encodable c.in-Err.why
+    (subst (λ (v : Verdict). Encodable (verdict_says v)) c.in-Err.is c.requires)
 
-pub returns-in-Refused : goal.returns-in-Refused
-returns-in-Refused c = c.number_of.ensures ∙ ap (λ (v : Verdict). number (verdict_says v)) (sym c.in-Refused.is)
+pub returns-in-Err : goal.returns-in-Err
+returns-in-Err c = c.number_of.ensures ∙ ap (λ (v : Verdict). number (verdict_says v)) (sym c.in-Err.is)
