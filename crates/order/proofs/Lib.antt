@@ -3,6 +3,5 @@
 pub mod Meaning
 pub mod Hold
 -- What only the functions inside need.
-mod Gathering
 mod Breaking
 mod Walking

@@ -13,10 +13,12 @@ use lib.ListN.{length}
 use borrow.Author.Count.{below_more}
 use borrow.Author.Tests.{le-ltb, ltb-true, ltb-false, eqb-true, eqb-false}
 use Rattle.table.specs.Answers.{gives, refuses}
+use Rattle.std.specs.Prelude.{Result, Ok, Err}
+use Rattle.table.specs.declared.Refusal.{Refusal}
 use Rattle.table.specs.declared.Refusal.TheVariants.{Pairs, TokenBytes}
 use Rattle.order.specs.declared.Pair.{Pair}
 use Rattle.order.specs.declared.Verdict.{Verdict}
-use Rattle.order.specs.declared.Verdict.TheVariants.{Kept, Broken, Refused}
+use Rattle.order.specs.declared.Verdict.TheVariants.{Kept, Broken}
 use Rattle.order.specs.Breaks.{token_count, name_at, Breaks, Among, Keeps, FirstToBreak, earlier, breaks, breaks_some}
 use Rattle.order.specs.Verdicts.{first_from, judged, ordered, verdict_says, order_says}
 use Rattle.order.proofs.Breaking.{alike, Free, earlier-at, at-earlier, test-breaks, breaks-test, some-breaks, breaks-some, none-broken, one-broken}
@@ -30,12 +32,12 @@ clash : {A : Type 0} → ◌≡◌ {A = ℕ} 0 1 → A
 clash z = absurd (omega arith)
 
 -- every verdict, with what it says of the lists
-data Outcome (ts : List ℕ) (ps : List Pair) : Verdict → Type 0 where
-  many : 64 < length ps → Outcome ts ps (Refused Pairs)
-  uneven : length ps ≤ 64 → (length ts % 3 ≡ 0 → ⊥) → Outcome ts ps (Refused TokenBytes)
-  kept : length ps ≤ 64 → length ts % 3 ≡ 0 → Free ts ps (token_count ts) → Outcome ts ps (Kept (token_count ts))
+data Outcome (ts : List ℕ) (ps : List Pair) : Result Verdict Refusal → Type 0 where
+  many : 64 < length ps → Outcome ts ps (Err Pairs)
+  uneven : length ps ≤ 64 → (length ts % 3 ≡ 0 → ⊥) → Outcome ts ps (Err TokenBytes)
+  kept : length ps ≤ 64 → length ts % 3 ≡ 0 → Free ts ps (token_count ts) → Outcome ts ps (Ok (Kept (token_count ts)))
   broken : (r : ℕ) → length ps ≤ 64 → length ts % 3 ≡ 0 → r < token_count ts → breaks_some ts ps r ≡ true → Free ts ps r
-      → Outcome ts ps (Broken r)
+      → Outcome ts ps (Ok (Broken r))
 
 -- the first of n tokens that breaks some pair
 data First (ts : List ℕ) (ps : List Pair) (n : ℕ) : Type 0 where
@@ -58,31 +60,31 @@ outcome : (ts : List ℕ) (ps : List Pair) → Outcome ts ps (ordered ts ps)
 unfolding ordered judged
 outcome ts ps = pairs (ltb 64 (length ps)) refl
   where
-    walk : length ps ≤ 64 → length ts % 3 ≡ 0 → First ts ps (token_count ts) → Outcome ts ps (first_from ts ps (token_count ts) 0)
+    walk : length ps ≤ 64 → length ts % 3 ≡ 0 → First ts ps (token_count ts) → Outcome ts ps (Ok (first_from ts ps (token_count ts) 0))
     walk few even (none f) = rw (none-broken ts ps (token_count ts) f) (kept few even f)
     walk few even (one r l b f) = rw (one-broken ts ps (token_count ts) r l f b) (broken r few even l b f)
 
     bytes : length ps ≤ 64 → (b : Bool) → eqb (length ts % 3) 0 ≡ b
-        → Outcome ts ps (cond b (first_from ts ps (token_count ts) 0) (Refused TokenBytes))
+        → Outcome ts ps (cond b (Ok (first_from ts ps (token_count ts) 0)) (Err TokenBytes))
     bytes few true e = walk few (eqb-true (length ts % 3) 0 e) (first_of ts ps (token_count ts))
     bytes few false e = uneven few (eqb-false (length ts % 3) 0 e)
 
     pairs : (b : Bool) → ltb 64 (length ps) ≡ b
-        → Outcome ts ps (cond b (Refused Pairs) (cond (eqb (length ts % 3) 0) (first_from ts ps (token_count ts) 0) (Refused TokenBytes)))
+        → Outcome ts ps (cond b (Err Pairs) (cond (eqb (length ts % 3) 0) (Ok (first_from ts ps (token_count ts) 0)) (Err TokenBytes)))
     pairs true e = many (ltb-true 64 (length ps) e)
     pairs false e = bytes (ltb-false 64 (length ps) e) (eqb (length ts % 3) 0) refl
 
 -- 17 exactly for over 64 pairs
-pub refused-pairs : (ts : List ℕ) (ps : List Pair) → (ordered ts ps ≡ Refused Pairs) ↔ (64 < length ps)
+pub refused-pairs : (ts : List ℕ) (ps : List Pair) → (ordered ts ps ≡ Err Pairs) ↔ (64 < length ps)
 refused-pairs ts ps = (from (outcome ts ps), to (outcome ts ps))
   where
-    from : {v : Verdict} → Outcome ts ps v → v ≡ Refused Pairs → 64 < length ps
+    from : {v : Result Verdict Refusal} → Outcome ts ps v → v ≡ Err Pairs → 64 < length ps
     from (many h) e = h
     from (uneven f h) e = clash (cc)
     from (kept f h g) e = clash (cc)
     from (broken r f h l b g) e = clash (cc)
 
-    to : {v : Verdict} → Outcome ts ps v → 64 < length ps → v ≡ Refused Pairs
+    to : {v : Result Verdict Refusal} → Outcome ts ps v → 64 < length ps → v ≡ Err Pairs
     to (many h) l = refl
     to (uneven f h) l = absurd (omega arith)
     to (kept f h g) l = absurd (omega arith)
@@ -90,16 +92,16 @@ refused-pairs ts ps = (from (outcome ts ps), to (outcome ts ps))
 
 -- 18 exactly for bytes that are no multiple of 3, where there are not too many pairs
 pub refused-bytes : (ts : List ℕ) (ps : List Pair)
-    → (ordered ts ps ≡ Refused TokenBytes) ↔ ((length ps ≤ 64) × (length ts % 3 ≡ 0 → ⊥))
+    → (ordered ts ps ≡ Err TokenBytes) ↔ ((length ps ≤ 64) × (length ts % 3 ≡ 0 → ⊥))
 refused-bytes ts ps = (from (outcome ts ps), λ h. to (outcome ts ps) h.0 h.1)
   where
-    from : {v : Verdict} → Outcome ts ps v → v ≡ Refused TokenBytes → (length ps ≤ 64) × (length ts % 3 ≡ 0 → ⊥)
+    from : {v : Result Verdict Refusal} → Outcome ts ps v → v ≡ Err TokenBytes → (length ps ≤ 64) × (length ts % 3 ≡ 0 → ⊥)
     from (many h) e = clash (cc)
     from (uneven f h) e = (f, h)
     from (kept f h g) e = clash (cc)
     from (broken r f h l b g) e = clash (cc)
 
-    to : {v : Verdict} → Outcome ts ps v → length ps ≤ 64 → (length ts % 3 ≡ 0 → ⊥) → v ≡ Refused TokenBytes
+    to : {v : Result Verdict Refusal} → Outcome ts ps v → length ps ≤ 64 → (length ts % 3 ≡ 0 → ⊥) → v ≡ Err TokenBytes
     to (many h) l u = absurd (omega arith)
     to (uneven f h) l u = refl
     to (kept f h g) l u = absurd (u h)
@@ -122,16 +124,16 @@ keeps-free ts ps k i l e =
     b.without j m n
 
 -- the token count exactly where every pair is kept
-pub kept-exactly : (ts : List ℕ) (ps : List Pair) → length ps ≤ 64 → length ts % 3 ≡ 0 → (ordered ts ps ≡ Kept (token_count ts)) ↔ Keeps ts ps
+pub kept-exactly : (ts : List ℕ) (ps : List Pair) → length ps ≤ 64 → length ts % 3 ≡ 0 → (ordered ts ps ≡ Ok (Kept (token_count ts))) ↔ Keeps ts ps
 kept-exactly ts ps few even = (from (outcome ts ps), to (outcome ts ps))
   where
-    from : {v : Verdict} → Outcome ts ps v → v ≡ Kept (token_count ts) → Keeps ts ps
+    from : {v : Result Verdict Refusal} → Outcome ts ps v → v ≡ Ok (Kept (token_count ts)) → Keeps ts ps
     from (many h) e = absurd (omega arith)
     from (uneven f h) e = absurd (h even)
     from (kept f h g) e = free-keeps ts ps g
     from (broken r f h l b g) e = clash (cc)
 
-    to : {v : Verdict} → Outcome ts ps v → Keeps ts ps → v ≡ Kept (token_count ts)
+    to : {v : Result Verdict Refusal} → Outcome ts ps v → Keeps ts ps → v ≡ Ok (Kept (token_count ts))
     to (many h) k = absurd (omega arith)
     to (uneven f h) k = absurd (h even)
     to (kept f h g) k = refl
@@ -156,26 +158,26 @@ first-is ts ps r i e f b =
     omega arith
 
 -- a token's number exactly where it is the first that breaks some pair
-pub broken-exactly : (ts : List ℕ) (ps : List Pair) (i : ℕ) → length ps ≤ 64 → length ts % 3 ≡ 0 → (ordered ts ps ≡ Broken i) ↔ FirstToBreak ts ps i
+pub broken-exactly : (ts : List ℕ) (ps : List Pair) (i : ℕ) → length ps ≤ 64 → length ts % 3 ≡ 0 → (ordered ts ps ≡ Ok (Broken i)) ↔ FirstToBreak ts ps i
 broken-exactly ts ps i few even = (from (outcome ts ps), to (outcome ts ps))
   where
-    from : {v : Verdict} → Outcome ts ps v → v ≡ Broken i → FirstToBreak ts ps i
+    from : {v : Result Verdict Refusal} → Outcome ts ps v → v ≡ Ok (Broken i) → FirstToBreak ts ps i
     from (many h) e = absurd (omega arith)
     from (uneven f h) e = absurd (h even)
     from (kept f h g) e = clash (cc)
     from (broken r f h l b g) e = let q : r ≡ i = cc in rw q at (first-to-break ts ps r l b g)
 
-    to : {v : Verdict} → Outcome ts ps v → FirstToBreak ts ps i → v ≡ Broken i
+    to : {v : Result Verdict Refusal} → Outcome ts ps v → FirstToBreak ts ps i → v ≡ Ok (Broken i)
     to (many h) b = absurd (omega arith)
     to (uneven f h) b = absurd (h even)
     to (kept f h g) b = absurd (true≢false (sym (breaks-some ts ps i b.pair b.listed b.broken) ∙ g i b.inside))
-    to (broken r f h l e g) b = ap Broken (first-is ts ps r i e g b)
+    to (broken r f h l e g) b = ap (λ (j : ℕ). Ok (Broken j)) (first-is ts ps r i e g b)
 
 -- a list that keeps every pair is given its token count
-pub kept-count : (ts : List ℕ) (ps : List Pair) (n : ℕ) → ordered ts ps ≡ Kept n → n ≡ token_count ts
+pub kept-count : (ts : List ℕ) (ps : List Pair) (n : ℕ) → ordered ts ps ≡ Ok (Kept n) → n ≡ token_count ts
 kept-count ts ps n = from (outcome ts ps)
   where
-    from : {v : Verdict} → Outcome ts ps v → v ≡ Kept n → n ≡ token_count ts
+    from : {v : Result Verdict Refusal} → Outcome ts ps v → v ≡ Ok (Kept n) → n ≡ token_count ts
     from (many h) e = clash (cc)
     from (uneven f h) e = clash (cc)
     from (kept f h g) e = cc
@@ -200,7 +202,7 @@ pub same-pairs : (ts : List ℕ) (ps qs : List Pair) → ((p : Pair) → Among p
 unfolding ordered judged
 same-pairs ts ps qs s few few' =
     rw (le-ltb 64 (length ps) few, le-ltb 64 (length qs) few')
-    (ap (λ (v : Verdict). cond (eqb (length ts % 3) 0) v (Refused TokenBytes))
+    (ap (λ (v : Verdict). cond (eqb (length ts % 3) 0) (Ok v) (Err TokenBytes))
     (first-same ts ts ps qs (token_count ts) 0
     (λ j l h.
     alike (breaks_some ts ps j) (breaks_some ts qs j)
@@ -223,7 +225,7 @@ pub same_names : (ts us : List ℕ) (ps : List Pair) → length ts ≡ length us
 unfolding ordered judged
 same_names ts us ps e f =
     rw e
-    (ap (λ (v : Verdict). cond (ltb 64 (length ps)) (Refused Pairs) (cond (eqb (length us % 3) 0) v (Refused TokenBytes)))
+    (ap (λ (v : Verdict). cond (ltb 64 (length ps)) (Err Pairs) (cond (eqb (length us % 3) 0) (Ok v) (Err TokenBytes)))
     (first-same ts us ps ps (token_count us) 0 (λ j l h. some_same ts us ps j (λ i m. f i (omega arith)))))
 
 -- the first token of a name breaks the pair of the name twice
@@ -236,7 +238,7 @@ pub order-gives : (ts : List ℕ) (ps : List Pair) (n : ℕ) → order_says ts p
 unfolding order_says
 order-gives ts ps n = given (outcome ts ps)
   where
-    given : {v : Verdict} → Outcome ts ps v → verdict_says v ≡ gives n → n ≤ token_count ts
+    given : {v : Result Verdict Refusal} → Outcome ts ps v → verdict_says v ≡ gives n → n ≤ token_count ts
     given (many h) e = clash (cc)
     given (uneven f h) e = clash (cc)
     given (kept f h g) e = let q : n ≡ token_count ts = cc in omega arith
@@ -247,7 +249,7 @@ pub order-refuses : (ts : List ℕ) (ps : List Pair) (n d : ℕ) → order_says 
 unfolding order_says
 order-refuses ts ps n d = refused (outcome ts ps)
   where
-    refused : {v : Verdict} → Outcome ts ps v → verdict_says v ≡ refuses n d → ((n ≡ 17) ⊎ (n ≡ 18)) × (d ≡ 0)
+    refused : {v : Result Verdict Refusal} → Outcome ts ps v → verdict_says v ≡ refuses n d → ((n ≡ 17) ⊎ (n ≡ 18)) × (d ≡ 0)
     refused (many h) e = (inl (cc), cc)
     refused (uneven f h) e = (inr (cc), cc)
     refused (kept f h g) e = clash (cc)
@@ -258,7 +260,7 @@ pub said-many : (ts : List ℕ) (ps : List Pair) → (order_says ts ps ≡ refus
 unfolding order_says
 said-many ts ps = (told (outcome ts ps), λ h. ap verdict_says ((refused-pairs ts ps).1 h))
   where
-    told : {v : Verdict} → Outcome ts ps v → verdict_says v ≡ refuses 17 0 → 64 < length ps
+    told : {v : Result Verdict Refusal} → Outcome ts ps v → verdict_says v ≡ refuses 17 0 → 64 < length ps
     told (many h) e = h
     told (uneven f h) e = let z : ◌≡◌ {A = ℕ} 17 18 = cc in absurd (omega arith)
     told (kept f h g) e = clash (cc)
@@ -268,7 +270,7 @@ pub said-uneven : (ts : List ℕ) (ps : List Pair) → (order_says ts ps ≡ ref
 unfolding order_says
 said-uneven ts ps = (told (outcome ts ps), λ h. ap verdict_says ((refused-bytes ts ps).1 h))
   where
-    told : {v : Verdict} → Outcome ts ps v → verdict_says v ≡ refuses 18 0 → (length ps ≤ 64) × (length ts % 3 ≡ 0 → ⊥)
+    told : {v : Result Verdict Refusal} → Outcome ts ps v → verdict_says v ≡ refuses 18 0 → (length ps ≤ 64) × (length ts % 3 ≡ 0 → ⊥)
     told (many h) e = let z : ◌≡◌ {A = ℕ} 17 18 = cc in absurd (omega arith)
     told (uneven f h) e = (f, h)
     told (kept f h g) e = clash (cc)
@@ -278,7 +280,7 @@ pub said-kept : (ts : List ℕ) (ps : List Pair) → length ps ≤ 64 → length
 unfolding order_says
 said-kept ts ps few whole = (told (outcome ts ps), λ h. ap verdict_says ((kept-exactly ts ps few whole).1 h))
   where
-    told : {v : Verdict} → Outcome ts ps v → verdict_says v ≡ gives (token_count ts) → Keeps ts ps
+    told : {v : Result Verdict Refusal} → Outcome ts ps v → verdict_says v ≡ gives (token_count ts) → Keeps ts ps
     told (many h) e = clash (cc)
     told (uneven f h) e = clash (cc)
     told (kept f h g) e = free-keeps ts ps g
@@ -290,7 +292,7 @@ unfolding order_says
 said-broken ts ps i few whole =
     ((λ h. told (outcome ts ps) h.0 h.1), λ f. (ap verdict_says ((broken-exactly ts ps i few whole).1 f), f.inside))
   where
-    told : {v : Verdict} → Outcome ts ps v → verdict_says v ≡ gives i → i < token_count ts → FirstToBreak ts ps i
+    told : {v : Result Verdict Refusal} → Outcome ts ps v → verdict_says v ≡ gives i → i < token_count ts → FirstToBreak ts ps i
     told (many h) e l = clash (cc)
     told (uneven f h) e l = clash (cc)
     told (kept f h g) e l = let q : token_count ts ≡ i = cc in absurd (omega arith)

@@ -1,81 +1,61 @@
--- Laws of the two loops: the pairs that are left to test, and the set of the names seen.
+-- Laws of the walk over the tokens: the set of the names seen.
 -- Assumes nothing.
-use Prim.Native.Nat.{ℕ, zero, suc, ◌+◌, ◌-◌, ◌/◌, ◌%◌, ◌^◌, ◌≤◌, ◌<◌}
+use Prim.Native.Nat.{ℕ, zero, suc, ◌+◌, ◌/◌, ◌%◌, ◌^◌}
 use native.Mathlib.Nat.{zero-div}
 use native.Mathlib.Numerals.{add-one}
 use native.Mathlib.Omega.{arith}
 use mathlib.Core.Path.{◌≡◌, refl, sym, ap, ◌∙◌}
 use mathlib.Core.Logic.{⊎_elim}
-use mathlib.Core.Bool.{Bool, true, false, not, ◌&&◌, ◌||◌, and-false, true≢false}
-use mathlib.Core.List.{List}
+use mathlib.Core.Bool.{Bool, true, false, ◌||◌, true≢false}
+use mathlib.Core.List.{List, [], ◌∷◌}
 use lib.Dec.{eqb}
-use lib.ListN.{length, get_or, replicate, get_or-replicate}
+use lib.ListN.{length, get_or, replicate}
 use borrow.Author.Count.{below_more}
-use borrow.Author.Tests.{eqb-true, eq-eqb, ne_eqb}
+use borrow.Author.Tests.{eqb-true, eq-eqb}
 use Rattle.table.proofs.Passing.{or-true, or-true-left, or_true_right}
 use Rattle.marks.specs.Marks.{marked, MarkedToo}
 use Rattle.marks.proofs.Laws.{unmarked-bit}
 use Rattle.order.specs.declared.Pair.{Pair}
 use Rattle.order.specs.Breaks.{name_at, Breaks, earlier, breaks_some}
-use Rattle.order.specs.Steps.{pairs_from, lacks}
+use Rattle.order.specs.Steps.{lacks}
 use Rattle.order.proofs.Breaking.{Free, alike, untrue, earlier-at, some-breaks, breaks-some}
 
--- some of the pairs from pair j on has the second name, and a first name that is not in the set
-abbrev pub lacks_from : (ℕ → Bool) → ℕ → List ℕ → List ℕ → ℕ → ℕ → Bool
-lacks_from has x fs ss count j = lacks has x (pairs_from fs ss (count - j) j)
-
-module _ (has : ℕ → Bool) (x : ℕ) (fs ss : List ℕ) (count j : ℕ) where
-  lacks-next : j < count
-      → lacks_from has x fs ss count j ≡ ((eqb x (get_or ss j 0) && not (has (get_or fs j 0))) || lacks_from has x fs ss count (j + 1))
-  lacks-next l =
-      let e : count - j ≡ suc (count - (j + 1)) = omega arith in
-      rw (e, add-one j)
-
-  -- pair j has another second name, or its first name is in the set, or neither
-  pub lacks-other : j < count → (get_or ss j 0 ≡ x → ⊥) → lacks_from has x fs ss count j ≡ lacks_from has x fs ss count (j + 1)
-  lacks-other l n = lacks-next l ∙ rw (ne_eqb x (get_or ss j 0) (λ e. n (sym e)))
-
-  pub lacks-had : j < count → has (get_or fs j 0) ≡ true → lacks_from has x fs ss count j ≡ lacks_from has x fs ss count (j + 1)
-  lacks-had l h = lacks-next l ∙ rw (h, and-false (eqb x (get_or ss j 0)))
-
-  pub lacks-here : j < count → get_or ss j 0 ≡ x → has (get_or fs j 0) ≡ false → lacks_from has x fs ss count j ≡ true
-  lacks-here l e h = lacks-next l ∙ rw (eq-eqb x (get_or ss j 0) (sym e), h)
-
-  pub lacks-end : count ≤ j → lacks_from has x fs ss count j ≡ false
-  lacks-end l = let e : count - j ≡ 0 = omega arith in rw e
-
--- the marks of bytes are the names before token i
+-- the marks are the names before token i
 abbrev pub Seen : List ℕ → ℕ → List ℕ → Type 0
-Seen ts i ws = (x : ℕ) → x < 256 → marked ws x ≡ earlier ts i x
+Seen ts i ws = (x : ℕ) → marked ws x ≡ earlier ts i x
+
+zeros : (n k : ℕ) → ◌≡◌ {A = ℕ} (get_or (replicate n 0) k 0) 0
+zeros zero k = refl
+zeros (suc n) zero = refl
+zeros (suc n) (suc k) = zeros n k
 
 seen_none : (ts : List ℕ) → Seen ts 0 (replicate 4 0)
-seen_none ts x l =
-    unmarked-bit (replicate 4 0) x
-    (rw (get_or-replicate {A = ℕ} 4 (x / 64) 0 0 (omega arith)) (ap (λ (n : ℕ). n % 2) (zero-div (2 ^ (x % 64)))))
+seen_none ts x =
+    unmarked-bit (replicate 4 0) x (rw (zeros 4 (x / 64)) (ap (λ (n : ℕ). n % 2) (zero-div (2 ^ (x % 64)))))
 
 -- where token i's name is marked already, and where it is marked now
 seen-again : (ts : List ℕ) (i : ℕ) (ws : List ℕ) → Seen ts i ws → earlier ts i (name_at ts i) ≡ true → Seen ts (i + 1) ws
-seen-again ts i ws s e x l = s x l ∙ rw add-one (same (eqb (name_at ts i) x) refl)
+seen-again ts i ws s e x = s x ∙ rw add-one (same (eqb (name_at ts i) x) refl)
   where
     same : (b : Bool) → eqb (name_at ts i) x ≡ b → earlier ts i x ≡ (b || earlier ts i x)
     same true q = rw (← eqb-true (name_at ts i) x q) e
     same false q = refl
 
 seen_more : (ts : List ℕ) (i : ℕ) (ws ws' : List ℕ) → Seen ts i ws → MarkedToo (name_at ts i) ws ws' → Seen ts (i + 1) ws'
-seen_more ts i ws ws' s m x l = rw add-one (alike (marked ws' x) (earlier ts (suc i) x) to from)
+seen_more ts i ws ws' s m x = rw add-one (alike (marked ws' x) (earlier ts (suc i) x) to from)
   where
     to : marked ws' x ≡ true → earlier ts (suc i) x ≡ true
     to e =
         ⊎_elim
         (λ (q : x ≡ name_at ts i). or-true-left (eqb (name_at ts i) x) (earlier ts i x) (eq-eqb (name_at ts i) x (sym q)))
-        (λ (q : marked ws x ≡ true). or_true_right (eqb (name_at ts i) x) (earlier ts i x) (sym (s x l) ∙ q))
+        (λ (q : marked ws x ≡ true). or_true_right (eqb (name_at ts i) x) (earlier ts i x) (sym (s x) ∙ q))
         (m.only x e)
 
     from : earlier ts (suc i) x ≡ true → marked ws' x ≡ true
     from e =
         ⊎_elim
         (λ (q : eqb (name_at ts i) x ≡ true). rw (eqb-true (name_at ts i) x q) at (m.new (name_at ts i) refl))
-        (λ (q : earlier ts i x ≡ true). m.kept x (s x l ∙ q))
+        (λ (q : earlier ts i x ≡ true). m.kept x (s x ∙ q))
         (or-true (eqb (name_at ts i) x) (earlier ts i x) e)
 
 -- what is known at token i: the names before it, and that no token before it breaks a pair
@@ -97,10 +77,10 @@ again-free ts ps i e f =
     let c : Breaks ts p j = record { named = n ∙ b.named; without = λ k m. b.without k (omega arith) } in
     true≢false (sym (breaks-some ts ps j p a c) ∙ f j l))
 
-pub passed-again : (ts : List ℕ) (ps : List Pair) (i : ℕ) (ws : List ℕ) → Passed ts ps i ws → name_at ts i < 256
+pub passed-again : (ts : List ℕ) (ps : List Pair) (i : ℕ) (ws : List ℕ) → Passed ts ps i ws
     → marked ws (name_at ts i) ≡ true → Passed ts ps (i + 1) ws
-passed-again ts ps i ws p l m =
-    let e : earlier ts i (name_at ts i) ≡ true = sym (p.seen (name_at ts i) l) ∙ m in
+passed-again ts ps i ws p m =
+    let e : earlier ts i (name_at ts i) ≡ true = sym (p.seen (name_at ts i)) ∙ m in
     record {
       words = p.words;
       seen = seen-again ts i ws p.seen e;
@@ -117,11 +97,11 @@ passed-more ts ps i ws ws' p m e =
     }
 
 -- by the names before token i, its own name lacks a first name where it breaks a pair
-breaks-lacks : (ts : List ℕ) (i : ℕ) (ws fs ss : List ℕ) → Seen ts i ws → ((k : ℕ) → get_or fs k 0 < 256) → (n j : ℕ)
-    → breaks_some ts (pairs_from fs ss n j) i ≡ lacks (marked ws) (name_at ts i) (pairs_from fs ss n j)
-breaks-lacks ts i ws fs ss s b zero j = refl
-breaks-lacks ts i ws fs ss s b (suc n) j = rw (s (get_or fs j 0) (b j), breaks-lacks ts i ws fs ss s b n (suc j))
+breaks-lacks : (ts : List ℕ) (i : ℕ) (ws : List ℕ) (ps : List Pair) → Seen ts i ws
+    → breaks_some ts ps i ≡ lacks (marked ws) (name_at ts i) ps
+breaks-lacks ts i ws [] s = refl
+breaks-lacks ts i ws (p ∷ ps) s = rw (s p.first, breaks-lacks ts i ws ps s)
 
-pub breaks-as : (ts : List ℕ) (i : ℕ) (ws fs ss : List ℕ) → Seen ts i ws → ((k : ℕ) → get_or fs k 0 < 256) → (n : ℕ) {r b : Bool}
-    → r ≡ lacks (marked ws) (name_at ts i) (pairs_from fs ss n 0) → r ≡ b → breaks_some ts (pairs_from fs ss n 0) i ≡ b
-breaks-as ts i ws fs ss s b n e f = breaks-lacks ts i ws fs ss s b n 0 ∙ sym e ∙ f
+pub breaks-as : (ts : List ℕ) (i : ℕ) (ws : List ℕ) (ps : List Pair) → Seen ts i ws → {r b : Bool}
+    → r ≡ lacks (marked ws) (name_at ts i) ps → r ≡ b → breaks_some ts ps i ≡ b
+breaks-as ts i ws ps s e f = breaks-lacks ts i ws ps s ∙ sym e ∙ f

@@ -1,34 +1,32 @@
--- `order::judge` meets its contract: 17, then 18, then what `first_breaking` found.
+-- `order::judge` meets its contract. The loop's invariant: the marks are the names before token i, and no token before it breaks a pair.
 -- Assumes nothing.
-use Prim.Native.Nat.{◌/◌, ◌%◌}
 use native.Mathlib.Omega.{arith}
-use borrow.Author.Tests.{le-ltb, eq-eqb}
-use lib.ListN.{length}
-use Rattle.order.specs.Verdicts.{judged}
-use Rattle.order.specs.Steps.{pairs_from}
+use mathlib.Core.Path.{sym, ◌∙◌}
 use Rattle.order.proofs.Breaking.{none-broken, one-broken}
+use Rattle.order.proofs.Walking.{passed_none, passed-again, passed-more, breaks-as}
+use Rattle.order.proofs.judge.Goals.{then-not-is_marked+else-lacks_first, else-not-is_marked}
 use Rattle.order.proofs.judge.Goals as goal
 
-pub returns-then-found-end : goal.returns-then-found-end
-unfolding judged
-returns-then-found-end c =
-    let a = c.args in
-    let f = c.first_breaking-found in
-    rw (
-      le-ltb 64 a.pairs (omega arith),
-      eq-eqb (length a.tokens.now % 3) 0 (omega arith),
-      one-broken a.tokens.now (pairs_from a.names.firsts a.names.seconds a.pairs 0) (length a.tokens.now / 3) f.result (omega arith) f.ensures.before
-          (f.ensures.breaking (omega arith)),
-    )
+pub loop-i-init : goal.loop-i-init
+loop-i-init c = passed_none _ _
+
+pub returns-then-lacks_first : goal.returns-then-lacks_first
+returns-then-lacks_first c =
+    let l = c.loop-i in
+    sym
+    (one-broken c.args.tokens.now c.args.pairs.now _ l.i c.loop-i-test.true l.invariant.free
+    (breaks-as _ _ l.seen _ l.invariant.seen c.lacks_first.ensures c.if-lacks_first.true))
+
+pub loop-i-preserved : goal.loop-i-preserved
+loop-i-preserved c =
+    let l = c.loop-i in
+    elim c.if-not-is_marked.branch [
+      | then-not-is_marked+else-lacks_first w ↦
+          rw w.seen-is
+          (passed-more _ _ l.i l.seen _ l.invariant w.mark.ensures
+          (breaks-as _ _ l.seen _ l.invariant.seen w.lacks_first.ensures w.if-lacks_first.false))
+      | else-not-is_marked w ↦ rw w.seen-is (passed-again _ _ l.i l.seen l.invariant (sym c.is_marked.ensures ∙ w.if-not-is_marked.false))
+    ]
 
 pub returns : goal.returns
-unfolding judged
-returns c =
-    let a = c.args in
-    let f = c.first_breaking-found in
-    rw (
-      le-ltb 64 a.pairs (omega arith),
-      eq-eqb (length a.tokens.now % 3) 0 (omega arith),
-      none-broken a.tokens.now (pairs_from a.names.firsts a.names.seconds a.pairs 0) (length a.tokens.now / 3)
-          (λ j l. f.ensures.before j (omega arith)),
-    )
+returns c = sym (none-broken c.args.tokens.now c.args.pairs.now _ (λ j h. c.loop-i.invariant.free j (omega arith)))
