@@ -1,12 +1,13 @@
 -- Tokens read from their 3-byte records, and the length of their lines.
 -- Assumes nothing.
-use Prim.Native.Nat.{ℕ, zero, suc, ◌+◌, ◌*◌, ◌≤◌, ◌<◌}
+use Prim.Native.Nat.{ℕ, zero, suc, ◌+◌, ◌*◌, ◌/◌, ◌≤◌, ◌<◌}
 use mathlib.Core.Path.{◌≡◌, refl, sym, ◌∙◌, ap}
 use mathlib.Core.List.{List, [], ◌∷◌, ◌++◌, append_assoc, append-nil}
 use native.Mathlib.Omega.{arith}
 use native.Mathlib.Numerals.{add-one}
 use lib.ListN.{length, take, drop, get_or, length-append, take-append-drop}
-use lib.Seq.{length-take-le}
+use lib.Seq.{length-take-le, get_or-take, get_or-drop}
+use Rattle.std.specs.Simd.{first_chunks}
 use Rattle.tokens.specs.Tokens.{Token, token_bytes, nth_token}
 use Rattle.tokens.proofs.Counts.{bytes_count}
 use Rattle.tokens.proofs.Places.{token-next}
@@ -43,6 +44,34 @@ tokens-are n s xs h e =
 lines_snoc : (xs : List Token) (x : Token) → token_lines (xs ++ (x ∷ [])) ≡ token_lines xs ++ token_line x
 lines_snoc [] x = append-nil (token_line x)
 lines_snoc (y ∷ xs) x = ap (λ (s : List ℕ). token_line y ++ s) (lines_snoc xs x) ∙ sym (append_assoc (token_line y) (token_lines xs) (token_line x))
+
+-- the bytes of the chunks of 3 bytes
+chunk_byte : (n k i m : ℕ) (s : List ℕ) → k < n → i < 3 → m ≡ 3 * k + i → get_or (get_or (first_chunks 3 n s) k []) i 0 ≡ get_or s m 0
+chunk_byte zero k i m s h g e = absurd (omega arith)
+chunk_byte (suc n) zero i m s h g e =
+    let f : m ≡ i = omega arith in
+    get_or-take 3 s i 0 g ∙ ap (λ (j : ℕ). get_or s j 0) (sym f)
+chunk_byte (suc n) (suc k) i m s h g e =
+    let f : 3 + (3 * k + i) ≡ m = omega arith in
+    chunk_byte n k i (3 * k + i) (drop 3 s) (omega arith) g refl ∙ get_or-drop 3 s (3 * k + i) 0 ∙ ap (λ (j : ℕ). get_or s j 0) f
+
+-- the line of a chunk of the first ones is that of the token there
+pub line_at :
+    (s : List ℕ) (chunks : List (List ℕ)) (n k : ℕ) → chunks ≡ first_chunks 3 (length s / 3) s → length chunks ≡ length s / 3
+    → k < length (take n chunks) → 3 * n ≤ length s
+    → token_line (record { tag = get_or (get_or (take n chunks) k []) 0 0; offset = get_or (get_or (take n chunks) k []) 1 0; size = get_or (get_or (take n chunks) k []) 2 0 })
+    ≡ token_line (nth_token s k)
+line_at s chunks n k e f h g = cc (at 0 (3 * k) (omega arith) (omega arith), at 1 (3 * k + 1) (omega arith) refl, at 2 (3 * k + 2) (omega arith) refl)
+  where
+    few : k < n
+    few =
+        let l : length (take n chunks) ≡ n = length-take-le n chunks (omega arith) in
+        omega arith
+
+    at : (i m : ℕ) → i < 3 → m ≡ 3 * k + i → get_or (get_or (take n chunks) k []) i 0 ≡ get_or s m 0
+    at i m l is =
+        ap (λ (c : List ℕ). get_or c i 0) (get_or-take n chunks k [] few ∙ ap (λ (cs : List (List ℕ)). get_or cs k []) e)
+        ∙ chunk_byte (length s / 3) k i m s (omega (arith, few)) l is
 
 -- the lines of one token more
 pub lines_more :

@@ -36,14 +36,9 @@ fn put_tokens(out: &mut [u8], at: usize, tokens: &[u8], count: usize) -> usize
         → Wrote out.old out.new at result (token_lines xs) }
 {
     let mut next = at;
-    for i in 0..count {
-        next = put_token(
-            out,
-            next,
-            tokens[3 * i],
-            tokens[3 * i + 1],
-            tokens[3 * i + 2],
-        );
+    let (records, _) = tokens.as_chunks::<3>();
+    for &[tag, offset, size] in &records[..count] {
+        next = put_token(out, next, tag, offset, size);
     }
     next
 }

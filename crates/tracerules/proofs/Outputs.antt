@@ -25,13 +25,6 @@ use Rattle.tracerules.specs.Messages.{refused_line}
 use Rattle.tracerules.specs.Outputs.{stdout, stderr, table_length, output_said, output, shown, Inside}
 use Rattle.tracerules.proofs.Text.{text-length}
 
--- the bytes of a reply lie within the buffer
-pub inside-table : {r : Reply} {n size : ℕ} → Inside r size → r ≡ Table n → n ≤ size
-inside-table h e = rw e at h
-
-pub inside-complaint : {r : Reply} {n size : ℕ} → Inside r size → r ≡ Complaint n → n ≤ size
-inside-complaint h e = rw e at h
-
 -- the contract of a reply
 abbrev pub Replied : List ℕ → List ℕ → Reply → Type 0
 Replied input out r = Inside r (length out) × (shown r out ≡ output input)

@@ -7,7 +7,9 @@ use mathlib.Core.List.{List, [], ◌∷◌, ◌++◌}
 use native.Mathlib.Omega.{arith}
 use borrow.Author.Tests.{eq-eqb, ne_eqb}
 use lib.ListN.{length, take, get_or, length-append}
-use lib.Seq.{length-take-le, take_at, get_or-append-add}
+use Rattle.std.proofs.Common.{Bor, Option, None, Some, MatchOption}
+use Rattle.std.specs.Option.{unwrap_or}
+use lib.Seq.{take-suc, take-length, length-take-le, take_at, get_or-append-add}
 use Rattle.tracerules.specs.Text.{ends_line, text_of}
 
 -- by the input's last byte
@@ -49,6 +51,20 @@ pub text-plain : (s : List ℕ) (c : ℕ) → (c ≡ 10 → ⊥) → text_of (s 
 text-plain s c h =
     let g : get_or (s ++ (c ∷ [])) (length s) 0 ≡ 10 → ⊥ = λ e. h (sym (end-byte s c) ∙ e) in
     sym (text-kept (s ++ (c ∷ [])) (length s) (omega (arith, length-append s (c ∷ []))) g)
+
+-- the front of an input that ends in byte 10, or the input where none ends it
+text-whole : (input : List ℕ) → ((front : List ℕ) → input ≡ front ++ (10 ∷ []) → ⊥) → input ≡ text_of input
+text-whole [] h = text-none [] refl
+text-whole (c ∷ s) h =
+    text-kept (c ∷ s) (length s) (omega arith)
+    (λ e. h (take (length s) (c ∷ s)) (sym (take-length (c ∷ s)) ∙ take-suc (c ∷ s) (length s) 0 (omega arith) ∙ ap (λ (b : ℕ). take (length s) (c ∷ s) ++ (b ∷ [])) e))
+
+pub text-strip :
+    (input : Bor (List ℕ)) (r : Option (Bor (List ℕ)))
+    → MatchOption r ((front : List ℕ) → input.now ≡ front ++ (10 ∷ []) → ⊥) (λ x. input.now ≡ x.now ++ (10 ∷ []))
+    → (unwrap_or r input).now ≡ text_of input.now
+text-strip input None h = text-whole input.now h
+text-strip input (Some x) h = sym (ap text_of h ∙ text-ended x.now)
 
 pub text-empty : text_of [] ≡ []
 unfolding text_of

@@ -53,13 +53,11 @@ fn put_reason(out: &mut [u8], at: usize, number: u64, text: &[u8]) -> usize
     ensures bound { result ≤ at + 64 }
     ensures bytes { Wrote out.old out.new at result (reason text.now number) }
 {
-    if number == 15 {
-        return put_fault(out, at, text);
+    match number {
+        15 => put_fault(out, at, text),
+        16 => put_text(out, at, b": more than 255 records"),
+        _ => at,
     }
-    if number == 16 {
-        return put_text(out, at, b": more than 255 records");
-    }
-    at
 }
 
 // Writes the line for a text that is refused by a number to the front of the buffer and returns its length.

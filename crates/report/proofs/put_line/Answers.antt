@@ -2,7 +2,7 @@
 use Prim.Native.Nat.{◌+◌}
 use native.Mathlib.Omega.{arith}
 use lib.ListN.{length}
-use Rattle.printing.proofs.Writes.{wrote-length, wrote-5, wrote-room}
+use Rattle.printing.proofs.Writes.{wrote-5, wrote-room}
 use Rattle.printing.proofs.Digits.{length-decimal}
 use Rattle.report.proofs.put_line.Goals as goal
 
@@ -34,12 +34,6 @@ put_byte-requires c =
     let word-written = wrote-room c.put_text-n_at.ensures (length c.args.word.now) 21 (omega arith) (omega (arith, number-written)) in
     let n-written = wrote-room c.put_decimal-n_end.ensures 20 1 (length-decimal c.args.n (omega (arith, c.ranges.n))) word-written in
     omega (arith, n-written)
-
-pub shape_of-out : goal.shape_of-out
-shape_of-out c =
-    wrote-length
-    (wrote-5 c.put_text-number_at.ensures c.put_decimal-word_at.ensures c.put_text-n_at.ensures c.put_decimal-n_end.ensures
-    c.put_byte.ensures)
 
 pub returns : goal.returns
 returns c =

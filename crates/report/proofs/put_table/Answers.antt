@@ -26,9 +26,6 @@ put_byte-requires c =
       length-decimal c.args.refusal (omega (arith, c.ranges.refusal)),
     )
 
-pub shape_of-out : goal.shape_of-out
-shape_of-out c = wrote-length (wrote-3 c.put_text-refusal_at.ensures c.put_decimal-refusal_end.ensures c.put_byte.ensures)
-
 pub returns : goal.returns
 returns c =
     record {

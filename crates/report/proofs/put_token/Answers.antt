@@ -1,6 +1,6 @@
 -- `report::put_token` meets its contract: three numbers of at most 3 digits, each with a byte after it. Assumes nothing.
 use native.Mathlib.Omega.{arith}
-use Rattle.printing.proofs.Writes.{wrote-length, wrote_then, wrote-5, wrote-room}
+use Rattle.printing.proofs.Writes.{wrote_then, wrote-5, wrote-room}
 use Rattle.printing.proofs.Digits.{length-decimal-byte}
 use Rattle.report.proofs.put_token.Goals as goal
 
@@ -44,12 +44,6 @@ put_byte-requires c =
     let again-written = wrote-room c.put_byte-size_at.ensures 1 4 (omega arith) offset-written in
     let size-written = wrote-room c.put_decimal-size_end.ensures 3 1 (length-decimal-byte c.args.size (omega (arith, c.ranges.size))) again-written in
     omega (arith, size-written)
-
-pub shape_of-out : goal.shape_of-out
-shape_of-out c =
-    wrote-length (wrote_then c.put_decimal-tag_end.ensures
-    (wrote-5 c.put_byte-offset_at.ensures c.put_decimal-offset_end.ensures c.put_byte-size_at.ensures
-    c.put_decimal-size_end.ensures c.put_byte.ensures))
 
 pub returns : goal.returns
 returns c =
