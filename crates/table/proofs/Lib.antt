@@ -6,5 +6,6 @@ pub mod Nodes
 pub mod UpTo
 pub mod Checking
 pub mod Exits
+pub mod Refusals
 mod Letters
 mod Scan

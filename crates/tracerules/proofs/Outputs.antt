@@ -11,8 +11,7 @@ use lib.Dec.{ltb}
 use lib.ListN.{length, take, drop}
 use lib.Seq.{take_at, take_all, length-take-le}
 use Rattle.table.specs.declared.Refusal.{Refusal}
-use Rattle.table.specs.declared.Answer.{Answer}
-use Rattle.table.specs.declared.Answer.TheVariants.{Done, Refused}
+use Rattle.std.specs.Prelude.{Result, Ok, Err}
 use Rattle.table.specs.Answers.{Said, gives, refuses, refusal, says}
 use Rattle.notation.specs.Calls.{compile_says, compile_leaves}
 use Rattle.notation.proofs.Calls.{compile-front, compile-long, compile-refuses}
@@ -30,7 +29,7 @@ abbrev pub Replied : List ℕ → List ℕ → Reply → Type 0
 Replied input out r = Inside r (length out) × (shown r out ≡ output input)
 
 -- s is the input's text, and the call has been handed a buffer as long as the longest table
-module _ (input s out : List ℕ) (r : Answer) (t : s ≡ text_of input) (size : length out ≡ table_length) (e : says r ≡ compile_says s (length out)) where
+module _ (input s out : List ℕ) (r : Result ℕ Refusal) (t : s ≡ text_of input) (size : length out ≡ table_length) (e : says r ≡ compile_says s (length out)) where
   output-by : (x : Said) → compile_says s (length out) ≡ x → output input ≡ output_said s x
   unfolding output
   output-by x h =
@@ -38,21 +37,21 @@ module _ (input s out : List ℕ) (r : Answer) (t : s ≡ text_of input) (size :
       ∙ ap (λ (n : ℕ). output_said s (compile_says s n)) (sym size)
       ∙ ap (output_said s) h
 
-  said-done : (m : ℕ) → r ≡ Done m → compile_says s (length out) ≡ gives m
+  said-done : (m : ℕ) → r ≡ Ok m → compile_says s (length out) ≡ gives m
   said-done m f = sym e ∙ ap says f
 
-  pub done-room : (m : ℕ) → r ≡ Done m → 4 * m ≤ length out
+  pub done-room : (m : ℕ) → r ≡ Ok m → 4 * m ≤ length out
   done-room m f = (compile-front s out m (said-done m f)).0
 
   pub replied-table :
-      (m : ℕ) (after : List ℕ) → r ≡ Done m → after ≡ compile_leaves s out → length after ≡ length out → Replied input after (Table (4 * m))
+      (m : ℕ) (after : List ℕ) → r ≡ Ok m → after ≡ compile_leaves s out → length after ≡ length out → Replied input after (Table (4 * m))
   replied-table m after f g kept = (
     omega (arith, done-room m f),
     ap (λ (u : List ℕ). stdout (take (4 * m) u)) g ∙ ap stdout (compile-front s out m (said-done m f)).1 ∙ sym (output-by (gives m) (said-done m f)),
   )
 
   pub replied-complaint :
-      {why : Refusal} (number detail : ℕ) {before after : List ℕ} {n : ℕ} → r ≡ Refused why → refuses number detail ≡ refusal why
+      {why : Refusal} (number detail : ℕ) {before after : List ℕ} {n : ℕ} → r ≡ Err why → refuses number detail ≡ refusal why
       → length before ≡ length out → Wrote before after 0 n (refused_line s number) → n ≤ 128
       → Replied input after (Complaint n)
   replied-complaint number detail {before} {after} {n} f g kept w few =

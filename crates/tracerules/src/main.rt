@@ -8,10 +8,7 @@ ghost use Rattle.tracerules.specs.Text.{text_of, input_length};
 ghost use Rattle.tracerules.specs.Messages.{fault_of, reason, refused_line};
 ghost use Rattle.tracerules.specs.Outputs.{table_length, output, shown, Inside};
 
-use descriptors::Filled;
 use printing::{put_byte, put_decimal, put_text};
-use std::io::Error;
-use table::Answer;
 
 // What is written for an input: so many bytes of the buffer, a table's to standard output or a refusal's line to standard error.
 #[derive(Drop)]
@@ -24,14 +21,7 @@ pub enum Reply {
 fn text_of(input: &[u8]) -> &[u8]
     ensures { result.now ≡ text_of input.now }
 {
-    if input.len() == 0 {
-        return input;
-    }
-    let last = input.len() - 1;
-    if input[last] != 10 {
-        return input;
-    }
-    &input[..last]
+    input.strip_suffix(b"\n").unwrap_or(input)
 }
 
 // Writes what is wrong with a text that is refused by 15, at a position, and returns the next position.
@@ -80,23 +70,16 @@ fn respond(input: &[u8], out: &mut [u8]) -> Reply
 {
     let text = text_of(input);
     match notation::compile(text, out) {
-        Answer::Done(count) => Reply::Table(4 * count),
-        Answer::Refused(why) => {
-            let numbers = table::numbers_of(why);
-            Reply::Complaint(put_refused(out, numbers.number as u64, text))
+        Ok(count) => Reply::Table(4 * count),
+        Err(why) => {
+            Reply::Complaint(put_refused(out, why.number() as u64, text))
         }
     }
 }
 
-// What a call is lent in which it says why it failed: nothing failed yet.
-fn no_failure() -> Error {
-    Error::from_raw_os_error(0)
-}
-
 // Writes a table, or says that writing failed.
 fn print(rt: &HostRuntime, table: &[u8]) {
-    let mut why = no_failure();
-    if !descriptors::write_whole(rt, &mut rt.stdout(), table, &mut why) {
+    if let Err(why) = descriptors::write_whole(rt, &mut rt.stdout(), table) {
         descriptors::fail(&mut rt.stderr(), b"tracerules: writing failed", &why);
     }
 }
@@ -107,8 +90,7 @@ fn answer(rt: &HostRuntime, input: &[u8]) {
     match respond(input, &mut out) {
         Reply::Table(n) => print(rt, &out[..n]),
         Reply::Complaint(n) => {
-            let mut why = no_failure();
-            descriptors::write_whole(rt, &mut rt.stderr(), &out[..n], &mut why);
+            let _ = descriptors::write_whole(rt, &mut rt.stderr(), &out[..n]);
         }
     }
 }
@@ -117,10 +99,9 @@ fn answer(rt: &HostRuntime, input: &[u8]) {
 fn run(rt: &HostRuntime, input: &mut [u8])
     requires { length input.old ≡ input_length }
 {
-    let mut why = no_failure();
-    match descriptors::read_whole(rt, &mut rt.stdin(), input, &mut why) {
-        Filled::Bytes(n) => answer(rt, &input[..n]),
-        Filled::Failed => descriptors::fail(
+    match descriptors::read_whole(rt, &mut rt.stdin(), input) {
+        Ok(n) => answer(rt, &input[..n]),
+        Err(why) => descriptors::fail(
             &mut rt.stderr(),
             b"tracerules: reading standard input failed",
             &why,
