@@ -4,11 +4,10 @@ use Prim.Native.Nat.{ℕ, ◌+◌, ◌*◌, ◌-◌, ◌%◌, ◌≤◌}
 use mathlib.Core.Path.{◌≡◌, refl, sym, ◌∙◌, ap, subst}
 use mathlib.Core.Bool.{Bool, true, false, cond}
 use mathlib.Core.List.{List, [], ◌∷◌, ◌++◌, append-nil, append_assoc}
-use Rattle.std.specs.Prelude.{Option, Some}
 use native.Mathlib.Omega.{arith}
 use native.Mathlib.Nat.{zero-add, add-zero, add_assoc, mod-eq_of_lt}
-use borrow.Author.Tests.{leb-true, leb-false}
-use lib.Dec.{leb}
+use borrow.Author.Tests.{leb-true, leb-false, ne_eqb}
+use lib.Dec.{leb, eqb}
 use lib.ListN.{length, drop, take, set, length-append, length-set}
 use lib.Seq.{sets, sets-eq, length-sets, take_at, drop_at, drop-drop, set_at}
 use Rattle.table.specs.Records.{record_bytes}
@@ -128,44 +127,40 @@ pub alt-joins : Joins 3 alt
 alt-joins = record { joined_size = λ t u. omega arith; joined_records = λ k t u. refl }
 
 -- the last part joined to the one before it, if there is one
-module _ {kind : ℕ} {f : Tree → Tree → ℕ → Tree} (j : Joins kind f) (ts : List Tree) (u : Tree) (entry out : List ℕ) (count : ℕ) where
+module _ {kind : ℕ} {f : Tree → Tree → ℕ → Tree} (j : Joins kind f) (ts : List Tree) (u : Tree) (entry out : List ℕ) (mark count : ℕ) where
   both-joined :
-      (t : Tree) → Laid (ts ++ (t ∷ []) ++ (u ∷ [])) entry out → count ≡ total ts + size t + size u
-      → Laid (ts ++ (f t u 0 ∷ [])) entry (stored out count (record_bytes kind ((total ts + under t) % 256) ((count - 1) % 256) 0))
-  both-joined t l c =
+      (t : Tree) → Laid (ts ++ (t ∷ []) ++ (u ∷ [])) entry out → mark ≡ total ts + size t → count ≡ total ts + size t + size u
+      → Laid (ts ++ (f t u 0 ∷ [])) entry (stored out count (record_bytes kind ((mark - 1) % 256) ((count - 1) % 256) 0))
+  both-joined t l m c =
       let all : List Tree = ts ++ (t ∷ []) ++ (u ∷ []) in
       let before : total all ≡ count = omega (arith, total-last (ts ++ (t ∷ [])) u, total-last ts t) in
       let after : total (ts ++ (f t u 0 ∷ [])) ≡ total all + 1 = omega (arith, total-last ts (f t u 0), j.joined_size t u) in
-      let bytes : List ℕ = record_bytes kind ((total ts + under t) % 256) ((count - 1) % 256) 0 in
+      let bytes : List ℕ = record_bytes kind ((mark - 1) % 256) ((count - 1) % 256) 0 in
       subst (λ (x : ℕ). Laid (ts ++ (f t u 0 ∷ [])) entry (stored out x bytes)) before
-      (laid-stored all (ts ++ (f t u 0 ∷ [])) entry out kind ((total ts + under t) % 256) ((count - 1) % 256) l after
+      (laid-stored all (ts ++ (f t u 0 ∷ [])) entry out kind ((mark - 1) % 256) ((count - 1) % 256) l after
       (λ few.
-      let a : (total ts + under t) % 256 ≡ total ts + under t = mod-eq_of_lt (omega arith) in
+      let a : (mark - 1) % 256 ≡ total ts + under t = mod-eq_of_lt (omega arith) ∙ omega arith in
       let b : (count - 1) % 256 ≡ total ts + size t + under u = mod-eq_of_lt (omega arith) ∙ omega arith in
       layout-last ts (f t u 0)
       ∙ rw (a, b, j.joined_records (total ts) t u, layout-last (ts ++ (t ∷ [])) u, layout-last ts t, total-last ts t) (simp append_assoc)))
 
   pub joins :
-      (mark : Option ℕ) (h : Held) → Laid (ts ++ held h ++ (u ∷ [])) entry out → mark ≡ mark_of (total ts) h
-      → count ≡ total (ts ++ held h ++ (u ∷ []))
+      (h : Held) → Laid (ts ++ held h ++ (u ∷ [])) entry out → mark ≡ mark_of (total ts) h → count ≡ total (ts ++ held h ++ (u ∷ []))
       → LastPart ts (joined f h (some u)) (join_count mark count) entry (join_leaves kind mark count out)
-  joins mark none l m c = rw m (record { counted = rw append-nil at c; laid = rw append-nil at l })
-  joins mark (some t) l m c =
+  joins none l m c =
+      rw m (record { mark_right = c ∙ rw append-nil (total-last ts u); laid = rw append-nil at l })
+  joins (some t) l m c =
       let n : count ≡ total ts + size t + size u = omega (arith, total-last (ts ++ (t ∷ [])) u, total-last ts t) in
-      rw m (record { counted = omega (arith, j.joined_size t u, total-last ts (f t u 0)); laid = both-joined t l n })
+      let g : eqb mark 0 ≡ false = ne_eqb mark 0 (omega arith) in
+      rw g (record { mark_right = omega (arith, j.joined_size t u); laid = both-joined t l m n })
 
 -- a part that is joined to another is there
 pub joined-some : (f : Tree → Tree → ℕ → Tree) (h : Held) (u : Tree) → (x : Tree) × (joined f h (some u) ≡ some x)
 joined-some f none u = (u, refl)
 joined-some f (some t) u = (f t u 0, refl)
 
--- the last part's root is the last record
-pub last-mark :
-    (ts : List Tree) (h : Held) (x : Tree) (n : ℕ) → h ≡ some x → n ≡ total (ts ++ held h) → Some (n - 1) ≡ mark_of (total ts) h
-last-mark ts h x n e c =
-    let d : n ≡ total (ts ++ (x ∷ [])) = rw e at c in
-    let k : n - 1 ≡ total ts + under x = omega (arith, total-last ts x) in
-    rw (e, k)
+pub mark-total : (ts : List Tree) (x : Tree) → mark_of (total ts) (some x) ≡ total (ts ++ (x ∷ []))
+mark-total ts x = sym (total-last ts x)
 
 -- a leaf, an Empty or a Range, as a further part
 pub leaf-laid :

@@ -11,9 +11,8 @@ use lib.ListN.{length, get_or, set, length-set}
 use lib.Seq.{get_or-set_same, get_or-set_other}
 use borrow.Author.Rules.{rules}
 use denote.Enum.Bare.{sameb, same_true}
-use Rattle.std.specs.Prelude.{Option, Some, None}
-use Rattle.std.specs.Option.{option_eq}
 use Rattle.table.specs.Records.{record_bytes}
+use Rattle.table.proofs.Passing.{and_both}
 use Rattle.notation.specs.declared.Walk.{Walk}
 use Rattle.notation.specs.declared.Marks.{Marks}
 use Rattle.notation.specs.declared.Item.{Item}
@@ -23,9 +22,9 @@ use Rattle.notation.specs.Trees.{Tree, unit, range, cat, many, tag_of, with_tag}
 use Rattle.notation.specs.Tables.{size, records_from}
 use Rattle.notation.specs.Decision.{Held, none, some, Frame, frame, row_with, all_with}
 use Rattle.notation.specs.Walks.{held, outer_parts, parts, total, mark_of, item_of, Marked, Laid, LastPart, Shows}
-use Rattle.notation.specs.Walks.{stored, tag_stored, join_leaves, join_count, grouped, group_item}
+use Rattle.notation.specs.Walks.{stored, tag_stored, join_leaves, join_count, group_item}
 use Rattle.notation.proofs.Records.{size-tag, tag-of-with}
-use Rattle.notation.proofs.Laying.{cat-joins, alt-joins, joins, joined-some, last-mark, total-last, leaf-laid, star-laid, laid-tagged}
+use Rattle.notation.proofs.Laying.{cat-joins, alt-joins, joins, joined-some, mark-total, total-last, leaf-laid, star-laid, laid-tagged}
 
 -- what the tests of an item and of the marks say
 same-self : (x : Item) → sameb the_type x x ≡ false → ⊥
@@ -46,20 +45,21 @@ module _ (x y : Item) {b : Bool} where
   pub other_item : b ≡ not (sameb the_type x y) → b ≡ true → ¬ (x ≡ y)
   other_item e f g = same-self y (rw g at (not-true _ (sym e ∙ f)))
 
-pub no-marks : (l r : Option ℕ) {b : Bool} → b ≡ not (option_eq eqb l None && option_eq eqb r None) → b ≡ false → (l ≡ None) × (r ≡ None)
-no-marks None None e f = (refl, refl)
-no-marks None (Some n) e f = cc
-no-marks (Some n) r e f = cc
+pub no-marks : (l r : ℕ) {b : Bool} → b ≡ not (eqb l 0 && eqb r 0) → b ≡ false → (l ≡ 0) × (r ≡ 0)
+no-marks l r e f =
+    let h : (eqb l 0 ≡ true) × (eqb r 0 ≡ true) = and_both _ _ (not-false _ (sym e ∙ f)) in
+    (eqb-true l 0 h.0, eqb-true r 0 h.1)
 
-pub some-marks : (l r : Option ℕ) {b : Bool} → b ≡ not (option_eq eqb l None && option_eq eqb r None) → b ≡ true → ¬ ((l ≡ None) × (r ≡ None))
-some-marks None None e f g = cc
-some-marks None (Some n) e f g = cc (g.1)
-some-marks (Some n) r e f g = cc (g.0)
+pub some-marks : (l r : ℕ) {b : Bool} → b ≡ not (eqb l 0 && eqb r 0) → b ≡ true → ¬ ((l ≡ 0) × (r ≡ 0))
+some-marks l r e f g =
+    let z : (eqb l 0 && eqb r 0) ≡ false = not-true _ (sym e ∙ f) in
+    let y : true ≡ false = rw (eq-eqb l 0 g.0, eq-eqb r 0 g.1) at z in
+    cc
 
 -- there is a mark, or an item, just where a part is held
-pub mark-none : (k : ℕ) (h : Held) → mark_of k h ≡ None → h ≡ none
+pub mark-none : (k : ℕ) (h : Held) → mark_of k h ≡ 0 → h ≡ none
 mark-none k none e = refl
-mark-none k (some t) e = cc
+mark-none k (some t) e = absurd (omega arith)
 
 pub item-none : (h : Held) → item_of h ≡ Absent → h ≡ none
 item-none none e = refl
@@ -117,20 +117,19 @@ module _ {fs : List Frame} {l m : Held} {w : Walk} {stack : List Marks} {entry o
     -- the last item joins the row
     row-joined :
         LastPart (outer_parts fs ++ held l) (row_with m (some t)) (join_count w.marks.row w.count) entry (join_leaves 4 w.marks.row w.count out)
-    row-joined = joins cat-joins (outer_parts fs ++ held l) t entry out w.count w.marks.row m s.laid (row-right s) s.count_right
+    row-joined = joins cat-joins (outer_parts fs ++ held l) t entry out w.marks.row w.count m s.laid (row-right s) s.count_right
 
     pub item-joins :
-        {r : Walk} → r.count ≡ join_count w.marks.row w.count → r.marks ≡ record { left = w.marks.left; row = Some (r.count - 1) }
+        {r : Walk} → r.count ≡ join_count w.marks.row w.count → r.marks ≡ record { left = w.marks.left; row = r.count }
         → r.item ≡ Absent → r.depth ≡ w.depth
         → Shows fs l (row_with m (some t)) none r stack entry (join_leaves 4 w.marks.row w.count out)
     item-joins {r} c mr i d =
         let x = joined-some cat m t in
-        let n : r.count ≡ total (outer_parts fs ++ held l ++ held (row_with m (some t))) = c ∙ row-joined.counted in
         let a : w.marks.left ≡ mark_of (total (outer_parts fs)) l = left-right s in
-        let b : Some (r.count - 1) ≡ mark_of (total (outer_parts fs ++ held l)) (row_with m (some t)) =
-        last-mark (outer_parts fs ++ held l) (row_with m (some t)) x.0 r.count x.1 n in
+        let b : r.count ≡ mark_of (total (outer_parts fs ++ held l)) (row_with m (some t)) = c ∙ row-joined.mark_right in
         record {
-          count_right = n ∙ rw append-nil;
+          count_right =
+              b ∙ ap (mark_of (total (outer_parts fs ++ held l))) x.1 ∙ mark-total (outer_parts fs ++ held l) x.0 ∙ rw (append-nil, x.1);
           marks_right = mr ∙ rw (a, b);
           item_right = i;
           depth_right = d ∙ s.depth_right;
@@ -150,8 +149,8 @@ module _ {fs : List Frame} {l m : Held} {w : Walk} {stack : List Marks} {entry o
         LastPart (outer_parts fs ++ held l) h (join_count w.marks.row w.count) entry (join_leaves 4 w.marks.row w.count out))
         x.1 row-joined in
         rw x.1
-        (joins alt-joins (outer_parts fs) x.0 entry (join_leaves 4 w.marks.row w.count out) (join_count w.marks.row w.count) w.marks.left l y.laid
-        (left-right s) y.counted)
+        (joins alt-joins (outer_parts fs) x.0 entry (join_leaves 4 w.marks.row w.count out) w.marks.left (join_count w.marks.row w.count) l y.laid
+        (left-right s) (y.mark_right ∙ mark-total (outer_parts fs ++ held l) x.0))
 
 -- a leaf as the next item
 pub leaf-added :
@@ -186,7 +185,7 @@ nothing-held ts = simp append-nil
 pub opened :
     {fs : List Frame} {l m : Held} {w r : Walk} {stack : List Marks} {entry out : List ℕ} → Shows fs l m none w stack entry out
     → w.depth < 4096
-    → r.count ≡ w.count → r.marks ≡ record { left = None; row = None } → r.item ≡ w.item → r.depth ≡ w.depth + 1
+    → r.count ≡ w.count → r.marks ≡ record { left = 0; row = 0 } → r.item ≡ w.item → r.depth ≡ w.depth + 1
     → Shows (frame l m ∷ fs) none none none r (set stack w.depth w.marks) entry out
 opened {fs} {l} {m} {w} {r} {stack} s b c mr i d =
     let long : length stack ≡ 4096 = marked-long fs stack s.outer in
@@ -208,11 +207,13 @@ pub closes :
     {fs : List Frame} {l m h : Held} {n : ℕ} {r : Walk} {stack : List Marks} {entry out : List ℕ}
     → LastPart (outer_parts (frame l m ∷ fs)) h n entry out
     → Marked (frame l m ∷ fs) stack
-    → r.count ≡ n → r.marks ≡ get_or stack (length fs) (record { left = None; row = None }) → r.item ≡ item_of h → r.depth ≡ length fs
+    → (t : Tree) → h ≡ some t
+    → r.count ≡ n → r.marks ≡ get_or stack (length fs) (record { left = 0; row = 0 }) → r.item ≡ item_of h → r.depth ≡ length fs
     → Shows fs l m h r stack entry out
-closes p marked c mr i d =
+closes {fs} {l} {m} p marked t e c mr i d =
+    let ts : List Tree = outer_parts (frame l m ∷ fs) in
     record {
-      count_right = c ∙ p.counted;
+      count_right = c ∙ p.mark_right ∙ ap (mark_of (total ts)) e ∙ mark-total ts t ∙ rw e;
       marks_right = mr ∙ marked.0;
       item_right = i;
       depth_right = d;
@@ -222,19 +223,18 @@ closes p marked c mr i d =
 
 -- a group as an item is its tree
 group-by :
-    (l m : Held) (t : Tree) (k j : ℕ) (left row : Option ℕ) (i : Item) → left ≡ mark_of k l → row ≡ mark_of j m → i ≡ item_of (some t)
-    → grouped left row i ≡ item_of (all_with l m (some t))
-group-by none none t k j left row i e f g = rw (e, f) g
-group-by none (some u) t k j left row i e f g = rw (e, f)
-group-by (some u) none t k j left row i e f g = rw e
-group-by (some u) (some v) t k j left row i e f g = rw e
+    (l m : Held) (t : Tree) (k j : ℕ) (w : Walk) → w.marks.left ≡ mark_of k l → w.marks.row ≡ mark_of j m → w.item ≡ item_of (some t)
+    → group_item w ≡ item_of (all_with l m (some t))
+group-by none none t k j w e f g = rw (e, f) g
+group-by none (some u) t k j w e f g = rw (e, ne_eqb w.marks.row 0 (omega arith))
+group-by (some u) none t k j w e f g = rw (ne_eqb w.marks.left 0 (omega arith))
+group-by (some u) (some v) t k j w e f g = rw (ne_eqb w.marks.left 0 (omega arith))
 
 pub group-marked :
     {fs : List Frame} {l m : Held} {t : Tree} {w : Walk} {stack : List Marks} {entry out : List ℕ} → Shows fs l m (some t) w stack entry out
     → group_item w ≡ item_of (all_with l m (some t))
 group-marked {fs} {l} {m} {t} {w} s =
-    group-by l m t (total (outer_parts fs)) (total (outer_parts fs ++ held l)) w.marks.left w.marks.row w.item (left-right s) (row-right s)
-    s.item_right
+    group-by l m t (total (outer_parts fs)) (total (outer_parts fs ++ held l)) w (left-right s) (row-right s) s.item_right
 
 -- an asterisk
 pub starred-shown :
@@ -273,13 +273,14 @@ tagged-shown {fs} {l} {m} {t} {w} {r} {stack} {entry} {out} n b s c mr i d =
 pub parted-shown :
     {fs : List Frame} {h : Held} {n depth : ℕ} {r : Walk} {stack : List Marks} {entry out : List ℕ} (t : Tree) → h ≡ some t
     → LastPart (outer_parts fs) h n entry out → Marked fs stack → depth ≡ length fs
-    → r.count ≡ n → r.marks ≡ record { left = Some (n - 1); row = None } → r.item ≡ Absent → r.depth ≡ depth
+    → r.count ≡ n → r.marks ≡ record { left = n; row = 0 } → r.item ≡ Absent → r.depth ≡ depth
     → Shows fs h none none r stack entry out
 parted-shown {fs} {h} {n} t e p marked dd c mr i d =
-    let a : Some (n - 1) ≡ mark_of (total (outer_parts fs)) h = last-mark (outer_parts fs) h t n e p.counted in
     record {
-      count_right = c ∙ p.counted ∙ rw (append-nil (outer_parts fs ++ held h), append-nil (outer_parts fs ++ held h));
-      marks_right = mr ∙ rw a;
+      count_right =
+          c ∙ p.mark_right
+          ∙ rw (append-nil (outer_parts fs ++ held h), append-nil (outer_parts fs ++ held h), e) (mark-total (outer_parts fs) t);
+      marks_right = mr ∙ rw p.mark_right;
       item_right = i;
       depth_right = d ∙ dd;
       outer = marked;
@@ -292,16 +293,14 @@ pub empty_group :
     → LastPart (outer_parts fs) (some (unit 0)) (w.count + 1) entry (stored out w.count (record_bytes 1 0 0 0))
 empty_group {fs} {w} s =
     record {
-      counted =
-          ap (λ (n : ℕ). n + 1) (s.count_right ∙ rw (append-nil (outer_parts fs), append-nil (outer_parts fs), append-nil (outer_parts fs)))
-          ∙ sym (total-last (outer_parts fs) (unit 0));
+      mark_right = ap (λ (n : ℕ). n + 1) (s.count_right ∙ rw (append-nil (outer_parts fs), append-nil (outer_parts fs), append-nil (outer_parts fs)));
       laid = rw (append-nil (outer_parts fs), append-nil (outer_parts fs)) at (leaf-added (unit 0) 1 0 0 refl (λ k. refl) s);
     }
 
 -- before the first word
 pub begun-shown :
     {w : Walk} {stack : List Marks} (entry : List ℕ) → length stack ≡ 4096
-    → w ≡ record { count = 0; marks = record { left = None; row = None }; item = Absent; depth = 0 }
+    → w ≡ record { count = 0; marks = record { left = 0; row = 0 }; item = Absent; depth = 0 }
     → Shows [] none none none w stack entry entry
 begun-shown entry long b =
     rw b

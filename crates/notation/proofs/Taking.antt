@@ -6,12 +6,12 @@ use mathlib.Core.List.{List, [], ◌∷◌}
 use native.Mathlib.Omega.{arith}
 use borrow.Author.Tests.{eq-eqb, ne_eqb}
 use lib.ListN.{length, get_or}
-use Rattle.std.specs.Prelude.{Some, None}
+use Rattle.std.specs.Prelude.{Some}
 use Rattle.table.specs.Records.{record_bytes}
 use Rattle.notation.specs.declared.Walk.{Walk}
 use Rattle.notation.specs.declared.Marks.{Marks}
 use Rattle.notation.specs.declared.Item.TheVariants.{Absent, Untagged, Tagged}
-use Rattle.notation.specs.Trees.{Tree, alt, cat, tag_of}
+use Rattle.notation.specs.Trees.{Tree, unit, alt, cat, tag_of}
 use Rattle.notation.specs.Decision.{Held, none, some, joined, Frame, frame, row_with, all_with, stop, closed_in, starred, tagged, parted}
 use Rattle.notation.specs.Walks.{outer_parts, LastPart, Shows, Took, Fit, stored, tag_stored, join_leaves, join_count, group_item}
 use Rattle.notation.proofs.Laying.{joined-some}
@@ -39,7 +39,7 @@ module _ {fs : List Frame} {l m : Held} {w r : Walk} {stack : List Marks} {entry
   -- end_item, where there is an item
   pub item-ended :
       (i : Held) → Shows fs l m i w stack entry out → ¬ (w.item ≡ Absent) → r.count ≡ join_count w.marks.row w.count
-      → r.marks ≡ record { left = w.marks.left; row = Some (r.count - 1) } → r.item ≡ Absent → r.depth ≡ w.depth
+      → r.marks ≡ record { left = w.marks.left; row = r.count } → r.item ≡ Absent → r.depth ≡ w.depth
       → out' ≡ join_leaves 4 w.marks.row w.count out
       → Shows fs l (row_with m i) none r stack entry out'
   item-ended none s h c mr i d e = absurd (h s.item_right)
@@ -57,7 +57,7 @@ module _ {fs : List Frame} {l m : Held} {w r : Walk} {stack : List Marks} {entry
   pub bar-taken :
       (i : Held) (n : ℕ) → Shows fs l m i w stack entry out → ¬ (w.item ≡ Absent)
       → ((t : Tree) → Shows fs l m (some t) w stack entry out → LastPart (outer_parts fs) (all_with l m (some t)) n entry out')
-      → r.count ≡ n → r.marks ≡ record { left = Some (n - 1); row = None } → r.item ≡ Absent → r.depth ≡ w.depth
+      → r.count ≡ n → r.marks ≡ record { left = n; row = 0 } → r.item ≡ Absent → r.depth ≡ w.depth
       → Took (parted fs l m i) (Some r) stack entry out'
   bar-taken none n s h p c mr i d = absurd (h s.item_right)
   bar-taken (some t) n s h p c mr i d =
@@ -84,7 +84,7 @@ module _ {w : Walk} {stack : List Marks} {entry out : List ℕ} where
 
   pub close-missing :
       (fs : List Frame) (l m i : Held) → Shows fs l m i w stack entry out → w.item ≡ Absent
-      → ¬ ((w.marks.left ≡ None) × (w.marks.row ≡ None))
+      → ¬ ((w.marks.left ≡ 0) × (w.marks.row ≡ 0))
       → closed_in fs l m i ≡ stop
   close-missing [] l m i s e h = refl
   close-missing (frame l' m' ∷ fs) l m (some t) s e h = let z : some t ≡ none = item-none (some t) (sym s.item_right ∙ e) in cc
@@ -97,20 +97,23 @@ module _ {w r : Walk} {stack : List Marks} {entry out out' : List ℕ} where
   pub close-taken :
       (fs : List Frame) (l m i : Held) (n : ℕ) → Shows fs l m i w stack entry out → ¬ (w.depth ≡ 0) → ¬ (w.item ≡ Absent)
       → ((t : Tree) → Shows fs l m (some t) w stack entry out → LastPart (outer_parts fs) (all_with l m (some t)) n entry out')
-      → r.count ≡ n → r.marks ≡ get_or stack (w.depth - 1) (record { left = None; row = None }) → r.item ≡ group_item w
+      → r.count ≡ n → r.marks ≡ get_or stack (w.depth - 1) (record { left = 0; row = 0 }) → r.item ≡ group_item w
       → r.depth ≡ w.depth - 1
       → Took (closed_in fs l m i) (Some r) stack entry out'
   close-taken [] l m i n s d h p c mr g e = absurd (d s.depth_right)
   close-taken (frame l' m' ∷ fs) l m none n s d h p c mr g e = absurd (h s.item_right)
   close-taken (frame l' m' ∷ fs) l m (some t) n s d h p c mr g e =
       let at : w.depth - 1 ≡ length fs = omega (arith, s.depth_right) in
-      closes (p t s) s.outer c (rw at at mr) (g ∙ group-marked s) (e ∙ at)
+      let x = joined-some cat m t in
+      let y = joined-some alt l x.0 in
+      let f : all_with l m (some t) ≡ some y.0 = ap (joined alt l) x.1 ∙ y.1 in
+      closes (p t s) s.outer y.0 f c (rw at at mr) (g ∙ group-marked s) (e ∙ at)
 
   pub close-empty :
       (fs : List Frame) (l m i : Held) → Shows fs l m i w stack entry out → ¬ (w.depth ≡ 0) → w.item ≡ Absent
-      → (w.marks.left ≡ None) × (w.marks.row ≡ None)
+      → (w.marks.left ≡ 0) × (w.marks.row ≡ 0)
       → out' ≡ stored out w.count (record_bytes 1 0 0 0)
-      → r.count ≡ w.count + 1 → r.marks ≡ get_or stack (w.depth - 1) (record { left = None; row = None }) → r.item ≡ Untagged
+      → r.count ≡ w.count + 1 → r.marks ≡ get_or stack (w.depth - 1) (record { left = 0; row = 0 }) → r.item ≡ Untagged
       → r.depth ≡ w.depth - 1
       → Took (closed_in fs l m i) (Some r) stack entry out'
   close-empty [] l m i s d h nm e c mr g f = absurd (d s.depth_right)
@@ -119,4 +122,4 @@ module _ {w r : Walk} {stack : List Marks} {entry out out' : List ℕ} where
       (mark-none _ l (sym (left-right s) ∙ nm.0), mark-none _ m (sym (row-right s) ∙ nm.1), item-none i (sym s.item_right ∙ h)) in
       let at : w.depth - 1 ≡ length fs = omega (arith, s.depth_right) in
       let t : Shows (frame l' m' ∷ fs) none none none w stack entry out = rw (z.0, z.1, z.2) at s in
-      rw (z.0, z.1, z.2, e) (closes (empty_group t) s.outer c (rw at at mr) g (f ∙ at))
+      rw (z.0, z.1, z.2, e) (closes (empty_group t) s.outer (unit 0) refl c (rw at at mr) g (f ∙ at))

@@ -46,7 +46,7 @@ module _ {w : Walk} {stack : List Marks} {entry out : List ℕ} where
       let y = joined-some alt l x.0 in
       let e : all_with l m (some t) ≡ some y.0 = ap (joined alt l) x.1 ∙ y.1 in
       let q : LastPart [] (some y.0) n entry out' = rw e at (p t s) in
-      rw e (ap Some (omega (arith, q.counted)), q.laid)
+      rw e (ap Some (omega (arith, q.mark_right)), q.laid)
 
 -- what the walk has reached at a place of the text
 pub record Reached (text : List ℕ) (at : ℕ) (w : Walk) (stack : List Marks) (entry out : List ℕ) : Type 0 where
@@ -61,7 +61,7 @@ pub record Reached (text : List ℕ) (at : ℕ) (w : Walk) (stack : List Marks) 
 
 pub reached-begin :
     {w : Walk} {stack : List Marks} (text entry : List ℕ) → length stack ≡ 4096
-    → w ≡ record { count = 0; marks = record { left = None; row = None }; item = Absent; depth = 0 }
+    → w ≡ record { count = 0; marks = record { left = 0; row = 0 }; item = Absent; depth = 0 }
     → Reached text 0 w stack entry entry
 unfolding outcome
 reached-begin text entry long b =

@@ -12,7 +12,7 @@ use Rattle.notation.specs.declared.Marks.{Marks}
 use Rattle.notation.specs.declared.Item.{Item}
 use Rattle.notation.specs.declared.Item.TheVariants.{Absent, Untagged, Tagged}
 use Rattle.notation.specs.Trees.{Tree, tag_of}
-use Rattle.notation.specs.Tables.{under, size, records_from}
+use Rattle.notation.specs.Tables.{size, records_from}
 use Rattle.notation.specs.Decision.{Held, none, some, Frame, frame, state, Stepped, on, stop, Outcome, whole, stuck}
 
 -- the trees held, in the order of the text
@@ -36,10 +36,10 @@ abbrev pub layout : ℕ → List Tree → List ℕ
 layout k [] = []
 layout k (t ∷ ts) = records_from k t ++ layout (k + size t) ts
 
--- the mark of a part with so many records before it: the number of its root, where there is one
-abbrev pub mark_of : ℕ → Held → Option ℕ
-mark_of k none = None
-mark_of k (some t) = Some (k + under t)
+-- the mark of a part with so many records before it: the record count behind it, or 0 where there is none
+abbrev pub mark_of : ℕ → Held → ℕ
+mark_of k none = 0
+mark_of k (some t) = k + size t
 
 -- the marks of the alternatives and of the row behind some parts
 abbrev pub marks_of : List Tree → Held → Held → Marks
@@ -54,16 +54,16 @@ item_of (some t) = cond (eqb (tag_of t) 0) Untagged Tagged
 abbrev pub Marked : List Frame → List Marks → Type 0
 Marked [] stack = length stack ≡ 4096
 Marked (frame l r ∷ fs) stack =
-    (get_or stack (length fs) (record { left = None; row = None }) ≡ marks_of (outer_parts fs) l r) × Marked fs stack
+    (get_or stack (length fs) (record { left = 0; row = 0 }) ≡ marks_of (outer_parts fs) l r) × Marked fs stack
 
 -- the buffer, which was `entry`, holds the parts' records where it has room for them and their numbers fit a byte
 pub record Laid (ts : List Tree) (entry out : List ℕ) : Type 0 where
   pub long : length out ≡ length entry
   pub front : 4 * total ts ≤ length entry → total ts ≤ 255 → out ≡ layout 0 ts ++ drop (4 * total ts) entry
 
--- the part h stands behind the others as the last; n is the record count
+-- the part h stands behind the others as the last; n is its mark
 pub record LastPart (ts : List Tree) (h : Held) (n : ℕ) (entry out : List ℕ) : Type 0 where
-  pub counted : n ≡ total (ts ++ held h)
+  pub mark_right : n ≡ mark_of (total ts) h
   pub laid : Laid (ts ++ held h) entry out
 
 -- the walk and the buffers show the state
@@ -96,13 +96,11 @@ abbrev pub tag_stored : List ℕ → ℕ → ℕ → List ℕ
 tag_stored out k tag = cond (leb (4 * k + 4) (length out)) (set out (4 * k + 3) tag) out
 
 -- two parts joined by a record of a kind, where there is a part before the last: what the buffer and the record count are then
-abbrev pub join_leaves : ℕ → Option ℕ → ℕ → List ℕ → List ℕ
-join_leaves kind None count out = out
-join_leaves kind (Some root) count out = stored out count (record_bytes kind (root % 256) ((count - 1) % 256) 0)
+abbrev pub join_leaves : ℕ → ℕ → ℕ → List ℕ → List ℕ
+join_leaves kind mark count out = cond (eqb mark 0) out (stored out count (record_bytes kind ((mark - 1) % 256) ((count - 1) % 256) 0))
 
-abbrev pub join_count : Option ℕ → ℕ → ℕ
-join_count None count = count
-join_count (Some root) count = count + 1
+abbrev pub join_count : ℕ → ℕ → ℕ
+join_count mark count = cond (eqb mark 0) count (count + 1)
 
 -- the numbers of a walk r whose last item has joined the row, from those of w before
 pub record ItemEnded (w r : Walk) : Type 0 where
@@ -111,13 +109,8 @@ pub record ItemEnded (w r : Walk) : Type 0 where
   pub depth_kept : r.depth ≡ w.depth
 
 -- a group as an item: the last item where nothing stands before that, otherwise one without a tag
-abbrev pub grouped : Option ℕ → Option ℕ → Item → Item
-grouped None None i = i
-grouped None (Some root) i = Untagged
-grouped (Some root) row i = Untagged
-
 abbrev pub group_item : Walk → Item
-group_item w = grouped w.marks.left w.marks.row w.item
+group_item w = cond (eqb w.marks.left 0) (cond (eqb w.marks.row 0) w.item Untagged) Untagged
 
 -- a word that is a tag has a number other than 0
 abbrev pub TagGiven : Option Word → Type 0

@@ -34,18 +34,18 @@ pub enum Item {
     Tagged,
 }
 
-// The record numbers of two roots: of the alternatives up to the last bar, and of the row since, where there are any.
+// The marks of two parts, the alternatives up to the last bar and the row since: the record count behind each, 0 where there is none.
 #[derive(Clone, Copy, PartialEq, Eq)]
 pub struct Marks {
-    pub left: Option<u16>,
-    pub row: Option<u16>,
+    pub left: u16,
+    pub row: u16,
 }
 
 impl Marks {
     // Neither alternatives nor a row.
     pub const NONE: Marks = Marks {
-        left: None,
-        row: None,
+        left: 0,
+        row: 0,
     };
 }
 
@@ -188,26 +188,18 @@ fn number_byte(k: usize) -> u8
     (k % 256) as u8
 }
 
-// The number of the last of some records, as a mark.
-fn last_record(count: usize) -> Option<u16>
-    requires { (1 ≤ count) × (count ≤ 16384) }
-    ensures { result ≡ Some (count - 1) }
-{
-    Some((count - 1) as u16)
-}
-
 // Joins the last part, whose root is the last record, to the part before it with the given mark, if there is one, by a record of a kind. Returns
 // the record count.
-fn join(kind: Kind, mark: Option<u16>, count: usize, out: &mut [u8]) -> usize
+fn join(kind: Kind, mark: u16, count: usize, out: &mut [u8]) -> usize
     requires { (1 ≤ count) × (count ≤ 16384) }
     ensures count { result ≡ join_count mark count }
     ensures buffer { out.new ≡ join_leaves (number_of kind) mark count out.old }
     ensures near { (count ≤ result) × (result ≤ count + 1) }
 {
-    let Some(before) = mark else {
+    if mark == 0 {
         return count;
-    };
-    let left = number_byte(before as usize);
+    }
+    let left = number_byte(mark as usize - 1);
     let right = number_byte(count - 1);
     store(out, count, kind, left, right);
     count + 1
@@ -226,7 +218,7 @@ fn end_item(walk: Walk, out: &mut [u8]) -> Walk
     }
     let count = join(Kind::Seq, walk.marks.row, walk.count, out);
     let marks = Marks {
-        row: last_record(count),
+        row: count as u16,
         ..walk.marks
     };
     Walk {
@@ -287,10 +279,10 @@ fn take_open(walk: Walk, stack: &mut [Marks; 4096], out: &mut [u8]) -> Walk
 fn group_item(walk: Walk) -> Item
     ensures { result ≡ group_item walk }
 {
-    match (walk.marks.left, walk.marks.row) {
-        (None, None) => walk.item,
-        _ => Item::Untagged,
+    if walk.marks != Marks::NONE {
+        return Item::Untagged;
     }
+    walk.item
 }
 
 // A closing parenthesis: the marks of what stands before its group are back, and the group is the last item.
@@ -380,8 +372,8 @@ fn take_bar(walk: Walk, out: &mut [u8]) -> Option<Walk>
     Some(Walk {
         count,
         marks: Marks {
-            left: last_record(count),
-            row: None,
+            left: count as u16,
+            row: 0,
         },
         item: Item::Absent,
         ..walk

@@ -10,5 +10,5 @@ returns-then-eq-clause-shown c = λ fs l m i stack entry s. item-stays s (is_ite
 pub returns-clause-shown : goal.returns-clause-shown
 returns-clause-shown c =
     λ fs l m i stack entry s.
-    item-ended i s (is-not_item _ _ c.eq.ensures c.if-eq.false) c.join-count.ensures.count (rw c.last_record.ensures) refl refl
+    item-ended i s (is-not_item _ _ c.eq.ensures c.if-eq.false) c.join-count.ensures.count refl refl refl
     c.join-count.ensures.buffer

@@ -11,4 +11,4 @@ pub returns-clause-took : goal.returns-clause-took
 returns-clause-took c =
     λ fs l m i stack entry s.
     bar-taken i _ s (is-not_item _ _ c.eq.ensures c.if-eq.false) (λ t q. c.end_row-count.ensures.shown fs l m t stack entry q) refl
-    (rw c.last_record.ensures) refl refl
+    refl refl refl
