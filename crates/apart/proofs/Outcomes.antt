@@ -12,7 +12,7 @@ use lib.ListN.{length}
 use Rattle.table.specs.declared.Refusal.{Refusal}
 use Rattle.std.specs.Prelude.{Result, Ok, Err}
 use Rattle.table.specs.Records.{count, kind_at, a_at, b_at}
-use Rattle.table.specs.Answers.{Said, gives, refusal, says}
+use Rattle.table.specs.Answers.{Said, gives, refusal, rules_say}
 use Rattle.table.specs.Expression.{exp_of}
 use Rattle.table.proofs.Passing.{count-bound, a-below, b-below}
 use Rattle.reading.specs.Calls.{if_start}
@@ -32,14 +32,11 @@ right : (t : List ℕ) (k : ℕ) (said : Said) → said ≡ apart_says t k → R
 right t k said e = (e, λ (y : said ≡ gives 1). yes-apart t k (sym e ∙ y))
 
 pub outcome-refused :
-    (t : List ℕ) (k : ℕ) (r : Result ℕ Refusal) (why : Refusal) → says r ≡ if_start t k (gives (count t)) → r ≡ Err why → Right t k (refusal why)
+    (t : List ℕ) (k : ℕ) (r : Result (List ℕ) Refusal) (why : Refusal) → rules_say r ≡ if_start t k (gives (count t)) → r ≡ Err why → Right t k (refusal why)
 unfolding apart_says
 outcome-refused t k r why e f = right t k (refusal why) (not-admitted t k r why e f (gives (cond (seen_apart t k) 1 0)))
 
 module _ (t : List ℕ) (k : ℕ) (w : Admitted t k) where
-  pub record-there : 4 * k + 3 < length t
-  record-there = omega (arith, w.inside, count-bound t w.passes)
-
   module _ (kind : ℕ) (e : kind ≡ kind_at t k) where
     -- record k is no Or
     pub outcome-other : ¬ (kind ≡ 3) → Right t k (gives 0)

@@ -50,10 +50,10 @@ pub fn apart(table: &[u8], k: usize) -> Result<usize, Refusal>
     ensures yes { says result ≡ gives 1 → Apart table.now k }
 {
     let rules = reading::admit(table, k)?;
-    if rules.kind_at(k) != Kind::Or {
-        return Ok(0);
+    if let Kind::Or = rules.kind_at(k) {
+        let a = rules.a_at(k) as usize;
+        let b = rules.b_at(k) as usize;
+        return Ok(told_apart(all_shared(&rules, a, b)) as usize);
     }
-    let a = rules.a_at(k) as usize;
-    let b = rules.b_at(k) as usize;
-    Ok(told_apart(all_shared(&rules, a, b)) as usize)
+    Ok(0)
 }

@@ -9,7 +9,7 @@ use mathlib.Core.Bool.{Bool, true, false, true≢false, ◌&&◌, ◌||◌}
 use mathlib.Core.List.{List, []}
 use lib.Dec.{eqb}
 use lib.ListN.{length, get_or}
-use borrow.Author.Tests.{eq-eqb, ne_eqb, eqb-true, eqb-false}
+use borrow.Author.Tests.{eq-eqb, eqb-true, eqb-false}
 use Rattle.posix.specs.Expressions.{star}
 use Rattle.posix.specs.Spells.{spells}
 use Rattle.table.specs.Records.{count, kind_at, a_at, b_at, is_letter}
@@ -17,12 +17,13 @@ use Rattle.table.specs.Expression.{exp_of}
 use Rattle.table.specs.Letters.{LetterKind}
 use Rattle.table.proofs.Laws.{exp-or, exp-seq, exp-star}
 use Rattle.table.proofs.Passing.{kinds, kind-small, letter_at}
-use Rattle.marks.specs.Marks.{marked, MarkedToo}
+use Rattle.marks.specs.Marks.{marked}
 use Rattle.rows.specs.Layout.{longest_at, tells}
 use Rattle.rows.specs.Cuts.{some, cut_at}
 use Rattle.rows.proofs.Cuts.{never_true, below_or, some-found, cut-true}
 use Rattle.rows.proofs.Recurrences.{starts, rests, seq-cuts-apart, star-cuts}
 use Rattle.rows.proofs.Kept.{same-other, same-lower, longest-kept, empty-kept}
+use Rattle.plans.specs.declared.Bounds.{Bounds}
 use Rattle.plans.specs.Plans.{is_plain, Bounded, wakes, Parents}
 use Rattle.area.specs.Filling.{truth, RowTold, Known, Ready, Made, Progress, Visited, Woken, MarkedUnless}
 use Rattle.rows.proofs.Growing.{tells-has}
@@ -31,7 +32,7 @@ use Rattle.area.proofs.Known.{row_kept, empty-told, lower-told, known_kept}
 use Rattle.area.proofs.Records.{has-none, a-child, b-child, star-child, unmade, nothing-made, empty-made}
 
 -- a record that is not plain is ready to be made
-pub progress-ready : {t bounds s : List ℕ} {k : ℕ} {w : List ℕ} → Progress t bounds s k w → k < count t → is_plain bounds k ≡ false → Ready t s k w
+pub progress-ready : {t : List ℕ} {bounds : Bounds} {s : List ℕ} {k : ℕ} {w : List ℕ} → Progress t bounds s k w → k < count t → is_plain bounds k ≡ false → Ready t s k w
 progress-ready {t} {bounds} {s} {k} p l n = record { known = p.known; number = l; none = p.others k (omega arith) l n }
 
 -- a plain record's row is made already
@@ -45,7 +46,7 @@ plain-made t s k w one p =
     }
 
 -- a record was looked at
-module _ (t bounds s : List ℕ) (k : ℕ) (w w' : List ℕ) (p : Progress t bounds s k w) (number : k < count t) (v : Visited t bounds s k w w') where
+module _ (t : List ℕ) (bounds : Bounds) (s : List ℕ) (k : ℕ) (w w' : List ℕ) (p : Progress t bounds s k w) (number : k < count t) (v : Visited t bounds s k w w') where
   abbrev g : Made t s k w w'
   g = v.made
 
@@ -133,7 +134,7 @@ module _ (t bounds s : List ℕ) (k : ℕ) (w w' : List ℕ) (p : Progress t bou
           r.kept j (q.right i j h x u y (earlier i other o) (rw (other-head i h other) at n))
 
 -- a record that is not marked
-module _ (t bounds s : List ℕ) (k : ℕ) (w marks : List ℕ) (p : Progress t bounds s k w) (number : k < count t)
+module _ (t : List ℕ) (bounds : Bounds) (s : List ℕ) (k : ℕ) (w marks : List ℕ) (p : Progress t bounds s k w) (number : k < count t)
     (bounded : Bounded t (count t) bounds) (q : Woken t bounds s k w marks) (unmarked : marked marks k ≡ false) where
   abbrev m : ℕ
   m = count t
@@ -256,31 +257,17 @@ module _ (t bounds s : List ℕ) (k : ℕ) (w marks : List ℕ) (p : Progress t 
           go true z (inr x) = inr z
           go false z (inr x) = absurd (n (p.others i x h z))
 
--- marking a parent, or none
-pub unless-zero : (n i : ℕ) (marks : List ℕ) → n ≡ 0 → MarkedUnless n i marks marks
-unless-zero n i marks z = record { size = refl; kept = λ j h. h; new = λ x. absurd (x z) }
-
-pub unless-marked : (n : ℕ) {i j : ℕ} → i ≡ j → {marks marks' : List ℕ} → MarkedToo i marks marks' → MarkedUnless n j marks marks'
-unless-marked n e p = record { size = p.size; kept = p.kept; new = λ x. rw e at (p.new _ refl) }
-
 -- the code's test for a plain record
-module _ (t bounds s : List ℕ) (k : ℕ) (w : List ℕ) where
-  pub plain-seen : Progress t bounds s k w → k < count t → get_or bounds (1280 + k) 0 ≡ 1 → Visited t bounds s k w w
+module _ (t : List ℕ) (bounds : Bounds) (s : List ℕ) (k : ℕ) (w : List ℕ) where
+  pub plain-seen : Progress t bounds s k w → k < count t → get_or bounds.plain k false ≡ true → Visited t bounds s k w w
   unfolding is_plain
-  plain-seen p l z =
-      record {
-        made = plain-made t s k w p.known.some_byte (p.plains k l (eq-eqb (get_or bounds (1280 + k) 0) 1 z));
-        stayed = λ x. refl;
-      }
+  plain-seen p l z = record { made = plain-made t s k w p.known.some_byte (p.plains k l z); stayed = λ x. refl }
 
-  pub composite-ready : Progress t bounds s k w → k < count t → Bounded t (count t) bounds → ¬ (get_or bounds (1280 + k) 0 ≡ 1)
+  pub composite-ready : Progress t bounds s k w → k < count t → Bounded t (count t) bounds → get_or bounds.plain k false ≡ false
       → Ready t s k w × (is_letter t k ≡ false)
   unfolding is_plain
-  composite-ready p l b n =
-      let z : is_plain bounds k ≡ false = ne_eqb (get_or bounds (1280 + k) 0) 1 n in
-      (progress-ready p l z, (b.others k l z).0)
+  composite-ready p l b n = (progress-ready p l n, (b.others k l n).0)
 
-  pub composite-visited : (w' : List ℕ) → ¬ (get_or bounds (1280 + k) 0 ≡ 1) → Made t s k w w' → Visited t bounds s k w w'
+  pub composite-visited : (w' : List ℕ) → get_or bounds.plain k false ≡ false → Made t s k w w' → Visited t bounds s k w w'
   unfolding is_plain
-  composite-visited w' n g =
-      record { made = g; stayed = λ x. absurd (n (eqb-true (get_or bounds (1280 + k) 0) 1 x)) }
+  composite-visited w' n g = record { made = g; stayed = λ x. absurd (true≢false (sym x ∙ n)) }

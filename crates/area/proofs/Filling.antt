@@ -24,6 +24,7 @@ use Rattle.rows.specs.Rows.{Shaped}
 use Rattle.rows.proofs.Places.{size-grows, lower_block, own-inside, first_head, head-row}
 use Rattle.rows.proofs.Cuts.{below_or}
 use Rattle.rows.proofs.Kept.{Same, longest-kept}
+use Rattle.plans.specs.declared.Bounds.{Bounds}
 use Rattle.plans.specs.Plans.{lead, UnitRow, RunRow, in_bounds, repeat_at, is_plain, Bounded, wakes, Parents, Waking, Listed, EmptyTold}
 use Rattle.area.specs.Area.{Told}
 use Rattle.area.specs.Filling.{Sized, truth, RowTold, Progress, RunsTold, Woken, FilledFor, head_behind, Seeded, LowsSet}
@@ -35,7 +36,7 @@ use Rattle.area.proofs.Records.{has-none, has_one, one_set, short-shape}
 use Rattle.area.proofs.Blocks.{unmarked-more, unmarked-woken}
 
 -- the records from k on that are not marked
-pub passed_to : (t bounds s w marks : List ℕ) → Bounded t (count t) bounds → (n k : ℕ) → Progress t bounds s k w → Woken t bounds s k w marks
+pub passed_to : (t : List ℕ) (bounds : Bounds) (s w marks : List ℕ) → Bounded t (count t) bounds → (n k : ℕ) → Progress t bounds s k w → Woken t bounds s k w marks
     → k + n ≤ count t
     → ((i : ℕ) → k ≤ i → i < k + n → marked marks i ≡ false)
     → Progress t bounds s (k + n) w × Woken t bounds s (k + n) w marks
@@ -49,7 +50,7 @@ passed_to t bounds s w marks b (suc n) k p q l h =
     (unmarked-more t bounds s k w marks p in_table b q u) (unmarked-woken t bounds s k w marks p in_table b q u) (omega arith)
     (λ i x y. h i (omega arith) (omega arith)))
 
-pub passed-next : (t bounds s w marks : List ℕ) → Bounded t (count t) bounds → (k end r : ℕ) → Progress t bounds s k w
+pub passed-next : (t : List ℕ) (bounds : Bounds) (s w marks : List ℕ) → Bounded t (count t) bounds → (k end r : ℕ) → Progress t bounds s k w
     → Woken t bounds s k w marks
     → NextMarked marks k end r
     → r ≤ count t
@@ -60,7 +61,7 @@ passed-next t bounds s w marks b k end r p q n l =
     rw sum at (passed_to t bounds s w marks b (r - k) k p q (omega arith) (λ i x y. n.passed i x (omega arith)))
 
 -- the block's last row is made
-pub block-end : (t bounds s w : List ℕ) → Progress t bounds s (count t) w → FilledFor t bounds s w
+pub block-end : (t : List ℕ) (bounds : Bounds) (s w : List ℕ) → Progress t bounds s (count t) w → FilledFor t bounds s w
 block-end t bounds s w p =
     record {
       rows = λ j c l h.
@@ -116,7 +117,7 @@ run-shape m d k w low h =
     }
 
 -- the next block, with its seeds
-module _ (t bounds s u v w runs : List ℕ) (n : ℕ) (sized : Sized t s u) (one : 1 ≤ length s) (bytes : Bytes s)
+module _ (t : List ℕ) (bounds : Bounds) (s u v w runs : List ℕ) (n : ℕ) (sized : Sized t s u) (one : 1 ≤ length s) (bytes : Bytes s)
     (filled : FilledFor t bounds (drop 1 s) u) (bounded : Bounded t (count t) bounds) (listed : Listed bounds (count t) runs n)
     (seeded : Seeded bounds (get_or s 0 0) (count t) (length s) (count t) u v)
     (lows : LowsSet (count t) (length s) runs n v w) where
@@ -275,7 +276,7 @@ module _ (t bounds s u v w runs : List ℕ) (n : ℕ) (sized : Sized t s u) (one
           held false z = absurd (n (head i l ∙ rw z))
 
 -- what the seeds need: no header of the block behind is 255 and more
-pub behind-low : (t bounds s w : List ℕ) → Sized t s w → 1 ≤ length s → FilledFor t bounds (drop 1 s) w → (k : ℕ) → k < count t
+pub behind-low : (t : List ℕ) (bounds : Bounds) (s w : List ℕ) → Sized t s w → 1 ≤ length s → FilledFor t bounds (drop 1 s) w → (k : ℕ) → k < count t
     → 1 < length s
     → longest_at w (count t) (length s - 1) k ≤ 254
 behind-low t bounds s w sized one filled k l h =
@@ -287,7 +288,7 @@ first-told : (t w : List ℕ) → EmptyTold t (count t) w → (j : ℕ) → j < 
 unfolding tells
 first-told t w p j l = rw (first_head (count t) j) (p.right j l)
 
-pub first-filled : (t bounds w : List ℕ) → EmptyTold t (count t) w → FilledFor t bounds [] w
+pub first-filled : (t : List ℕ) (bounds : Bounds) (w : List ℕ) → EmptyTold t (count t) w → FilledFor t bounds [] w
 first-filled t bounds w p = record { rows = rows; runs = λ j c l i h. absurd (omega arith) }
   where
     rows : (j c : ℕ) → j < count t → c ≤ 0 → RowTold t [] c j w
@@ -302,19 +303,16 @@ first-filled t bounds w p = record { rows = rows; runs = λ j c l i h. absurd (o
         })
 
 -- all of it
-all-filled : (t bounds s w : List ℕ) → FilledFor t bounds s w → Told t s w
+all-filled : (t : List ℕ) (bounds : Bounds) (s w : List ℕ) → FilledFor t bounds s w → Told t s w
 all-filled t bounds s w p = record { fact = λ k d e l h x. (p.rows k d l h).fact e x }
 
 -- small numbers
-pub sized-few : {t s w : List ℕ} → Sized t s w → count t ≤ 255
-sized-few {t} p = (count-bound t p.passes).1
-
 -- the line from byte i on, as the code lends it
 rest_of : (s : List ℕ) (i : ℕ) → take (length s - i) (drop i s) ≡ drop i s
 rest_of s i = take_all (length s - i) (drop i s) (omega (arith, length-drop i s))
 
 -- the line's bytes from the last to the first
-module _ (t bounds s w : List ℕ) (sized : Sized t s w) where
+module _ (t : List ℕ) (bounds : Bounds) (s w : List ℕ) (sized : Sized t s w) where
   pub line-start : EmptyTold t (count t) w → FilledFor t bounds (drop (length s) s) w
   line-start p = rw (drop-length s) (first-filled t bounds w p)
 
@@ -332,16 +330,10 @@ module _ (t bounds s w : List ℕ) (sized : Sized t s w) where
               omega (arith, sized.room, size, size-grows (count t) (length (drop (i - 1) s)) (length s) (omega (arith, shorter-rest)));
         })
 
-    pub rest_some : 1 ≤ length (take (length s - (i - 1)) (drop (i - 1) s))
-    rest_some = rw (rest_of s (i - 1)) (omega (arith, shorter-rest))
-
     pub rest-filled : FilledFor t bounds (drop i s) v → FilledFor t bounds (drop 1 (take (length s - (i - 1)) (drop (i - 1) s))) v
     rest-filled p =
         let sum : i - 1 + 1 ≡ i = omega arith in
         rw (rest_of s (i - 1), drop-drop 1 (i - 1) s, sum) p
-
-    pub rest-next : (x : List ℕ) → FilledFor t bounds (take (length s - (i - 1)) (drop (i - 1) s)) x → FilledFor t bounds (drop (i - 1) s) x
-    rest-next x p = rw (rest_of s (i - 1)) at p
 
   pub line-end : (v : List ℕ) (i : ℕ) → i ≤ 0 → FilledFor t bounds (drop i s) v → Told t s v
   line-end v i l p = let z : i ≡ 0 = omega arith in all-filled t bounds s v (rw z at p)

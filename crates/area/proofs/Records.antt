@@ -1,6 +1,6 @@
 -- One law for each kind of record: the row as the code leaves it tells the truth of the record.
 -- Assumes nothing.
-use Prim.Native.Nat.{ℕ, suc, ◌+◌, ◌-◌, ◌*◌, ◌≤◌, ◌<◌}
+use Prim.Native.Nat.{ℕ, suc, ◌+◌, ◌-◌, ◌≤◌, ◌<◌}
 use native.Mathlib.Nat.{sub-zero}
 use native.Mathlib.Omega.{arith}
 use mathlib.Core.Path.{◌≡◌, refl, sym, ap, ◌∙◌}
@@ -10,12 +10,18 @@ use mathlib.Core.List.{List, [], ◌∷◌}
 use lib.Dec.{leb, eqb}
 use lib.ListN.{length, get_or, take, drop}
 use lib.Seq.{length-take-le}
-use borrow.Author.Tests.{ne_eqb, eqb-true, lt-leb}
+use denote.Enum.Bare.{sameb, same_true}
+use Rattle.std.proofs.Common.{rules}
+use borrow.Author.Tests.{ne_eqb, lt-leb}
 use Rattle.posix.specs.Expressions.{Exp, empty, seq, star}
 use Rattle.posix.specs.Spells.{spells}
 use Rattle.table.specs.Records.{count, kind_at, a_at, b_at, is_letter}
 use Rattle.table.specs.Faults.{Passes}
 use Rattle.table.specs.Expression.{exp_of}
+use Rattle.table.specs.Kinds.{number_of}
+use Rattle.table.specs.contracts.Kind.{the_type}
+use Rattle.table.specs.declared.Kind.{Kind}
+use Rattle.table.specs.declared.Kind.TheVariants.{Star}
 use Rattle.table.specs.Letters.{LetterKind}
 use Rattle.table.proofs.Laws.{exp-nothing, exp-empty, exp-or, exp-seq, exp-star}
 use Rattle.table.proofs.Passing.{a-below, b-below, star-a-below, kinds, kind-small, letter_at}
@@ -80,8 +86,11 @@ base-next t passes k j l base kind i ei =
     }
 
 -- the code's test for a Star
-star-seen : (t : List ℕ) (j : ℕ) {kind : ℕ} → kind ≡ kind_at t j → eqb kind 5 ≡ true → kind_at t j ≡ 5
-star-seen t j {kind} e h = sym e ∙ eqb-true kind 5 h
+pub star-seen : (t : List ℕ) (j : ℕ) (kind : Kind) (test : Bool) → number_of kind ≡ kind_at t j → test ≡ sameb the_type kind Star → test ≡ true
+    → kind_at t j ≡ 5
+star-seen t j kind test e same z =
+    let star : kind ≡ Star = same_true the_type (search rules) _ _ (sym same ∙ z) in
+    sym (rw star at e)
 
 module _ (t s : List ℕ) (k : ℕ) (w : List ℕ) (p : Ready t s k w) where
   abbrev m : ℕ
@@ -257,9 +266,9 @@ module _ (t s : List ℕ) (k : ℕ) (w : List ℕ) (p : Ready t s k w) where
         ≡ ((spells (exp_of t a) [] && starts (exp_of t b) s e) || some (cut_at (starts (exp_of t a) s) (rests (exp_of t b) s) 1 e) (suc e))
     seq-truth e x = whole e ∙ rw rule (seq-cuts-apart (exp_of t a) (exp_of t b) s e x)
 
-    pub without-cutting : {kind-b : ℕ} → kind-b ≡ kind_at t b → Cutting m d k a b (eqb kind-b 5) w
+    pub without-cutting : {star? : Bool} → (star? ≡ true → kind_at t b ≡ 5) → Cutting m d k a b star? w
     without-cutting h =
-        cutting-star w q growing a b a-low (omega (arith, b-low, p.number)) _ (star-seen t b h)
+        cutting-star w q growing a b a-low (omega (arith, b-low, p.number)) _ h
         (λ z c e one x y i j. absurd (true≢false (sym i ∙ fresh c one)))
 
     pub without-made : spells (exp_of t (a_at t k)) [] ≡ false → (v : List ℕ) → Grown m d k (cuts_joined m w d k a b 1 (d + 1)) w v → Made t s k w v
@@ -278,10 +287,10 @@ module _ (t s : List ℕ) (k : ℕ) (w : List ℕ) (p : Ready t s k w) where
       abbrev growing-u : Growing m d k u
       growing-u = added-growing b b-low u g
 
-      pub with-cutting : {kind-b : ℕ} → kind-b ≡ kind_at t b → Cutting m d k a b (eqb kind-b 5) u
+      pub with-cutting : {star? : Bool} → (star? ≡ true → kind_at t b ≡ 5) → Cutting m d k a b star? u
       with-cutting h =
-          cutting-star u known-u growing-u a b a-low (omega (arith, b-low, p.number)) _ (star-seen t b h)
-          (λ z c e one x y i j. closed (star-seen t b h z) c e one x y i j)
+          cutting-star u known-u growing-u a b a-low (omega (arith, b-low, p.number)) _ h
+          (λ z c e one x y i j. closed (h z) c e one x y i j)
         where
           closed : kind_at t b ≡ 5 → (c e : ℕ) → 1 ≤ c → c ≤ e → e ≤ d → has m u k d c ≡ true → second m u b d c (e - c) ≡ true
               → has m u k d e ≡ true
@@ -330,10 +339,6 @@ module _ (t s : List ℕ) (k : ℕ) (w : List ℕ) (p : Ready t s k w) where
 
 -- what the code's calls need, in the order of the code
 module _ (t s : List ℕ) (k : ℕ) (w : List ℕ) (p : Ready t s k w) where
-  -- a record stands in the table
-  pub record-there : (j : ℕ) → j ≤ k → 4 * j + 3 < length t
-  record-there j l = omega (arith, p.number)
-
   -- a child's row may be added first
   child-adds : (j : ℕ) → j < k
       → Growing (count t) (length s) k w × Earlier (count t) (length s) k j (length s) w
@@ -377,8 +382,8 @@ module _ (t s : List ℕ) (k : ℕ) (w : List ℕ) (p : Ready t s k w) where
   looked-set j l n = sym (empty-looked j l) ∙ set-byte (get_or w j 0) n
 
   -- a record without children that is no letter
-  pub leaf-made : is_letter t k ≡ false → {kind : ℕ} → kind ≡ kind_at t k → ¬ (kind ≡ 3) → ¬ (kind ≡ 4) → ¬ (kind ≡ 5) → Made t s k w w
-  leaf-made no-letter {kind} e three four five = go (kinds (kind_at t k) (kind-small t p.known.sized.passes k p.number))
+  pub leaf-made : is_letter t k ≡ false → (n : ℕ) → n ≡ kind_at t k → ¬ (n ≡ 3) → ¬ (n ≡ 4) → ¬ (n ≡ 5) → Made t s k w w
+  leaf-made no-letter n e three four five = go (kinds (kind_at t k) (kind-small t p.known.sized.passes k p.number))
     where
       go : ((kind_at t k ≡ 0) ⊎ (kind_at t k ≡ 1) ⊎ LetterKind (kind_at t k)) ⊎ ((kind_at t k ≡ 3) ⊎ (kind_at t k ≡ 4)) ⊎ (kind_at t k ≡ 5)
           → Made t s k w w

@@ -8,20 +8,15 @@ use mathlib.Core.Bool.{Bool, true, false, cond}
 use mathlib.Core.List.{List}
 use lib.Bits.{bit_and, and_zero_l, and_zero_r, and_comm, and_mask, and_le_l}
 use lib.Dec.{leb, eqb}
-use lib.ListN.{length, get_or, set, length-set}
-use lib.Seq.{get_or-set_same, get_or-set_other}
-use mir.Val.{bool_byte}
+use lib.ListN.{length, get_or, take, set, length-set}
+use lib.Seq.{get_or-take, length-take-le, get_or-set_same, get_or-set_other}
 use borrow.Author.Tests.{le-leb, lt-leb, eqb-true, eqb-false}
 use Rattle.rows.specs.Layout.{area_size, head_at, row_at, longest_at}
 use Rattle.rows.proofs.Places.{next-head, lower-row, row_inside, head-inside, lower_block}
 use Rattle.rows.proofs.Cuts.{below_or}
+use Rattle.plans.specs.declared.Bounds.{Bounds}
 use Rattle.plans.specs.Plans.{in_either, in_bounds, repeat_at}
 use Rattle.area.specs.Filling.{head_behind, Seeded, LowsSet}
-
--- the machine's byte of a test
-pub bool-byte : (b : Bool) → bool_byte b ≡ cond b 1 0
-bool-byte true = refl
-bool-byte false = refl
 
 -- `&` with the two values of a mask
 pub mask-whole : (x : ℕ) → x < 256 → bit_and x 255 ≡ x
@@ -35,13 +30,13 @@ seed-right true x e l = rw e (and_comm 255 x ∙ mask-whole x l)
 seed-right false x e l = rw e (and_zero_l x)
 
 -- the header behind, as the code masks it
-pub behind-masked : (m d k : ℕ) (w : List ℕ) {mask : ℕ} → mask ≡ cond (leb d 1) 0 255 → longest_at w m (d - 1) k < 256
+pub behind-masked : (m d k : ℕ) (w : List ℕ) {mask : ℕ} → mask ≡ cond (leb d 1) 0 255 → (1 < d → longest_at w m (d - 1) k ≤ 254)
     → bit_and (longest_at w m (d - 1) k) mask ≡ head_behind w m d k
-behind-masked m d k w e l = rw e (go (leb d 1))
+behind-masked m d k w e h = rw e (go (below_or 1 d))
   where
-    go : (b : Bool) → bit_and (longest_at w m (d - 1) k) (cond b 0 255) ≡ cond b 0 (longest_at w m (d - 1) k)
-    go true = and_zero_r (longest_at w m (d - 1) k)
-    go false = mask-whole (longest_at w m (d - 1) k) l
+    go : (1 < d) ⊎ (d ≤ 1) → bit_and (longest_at w m (d - 1) k) (cond (leb d 1) 0 255) ≡ head_behind w m d k
+    go (inl l) = rw (lt-leb d 1 l) (mask-whole (longest_at w m (d - 1) k) (omega (arith, h l)))
+    go (inr l) = rw (le-leb d 1 l) (and_zero_r (longest_at w m (d - 1) k))
 
 pub behind-small : (m d k x : ℕ) (w : List ℕ) → (1 < d → longest_at w m (d - 1) k ≤ 254) → bit_and (head_behind w m d k) x ≤ 254
 behind-small m d k x w h = go (below_or 1 d)
@@ -51,10 +46,7 @@ behind-small m d k x w h = go (below_or 1 d)
     go (inr l) = rw (le-leb d 1 l) (omega (arith, and_zero_l x))
 
 -- the headers of a block, one by one
-module _ (bounds : List ℕ) (c m d : ℕ) where
-  pub seeded-none : (w : List ℕ) → Seeded bounds c m d 0 w w
-  seeded-none w = record { size = refl; heads = λ k l. absurd (omega arith); kept = λ i h. refl }
-
+module _ (bounds : Bounds) (c m d : ℕ) where
   -- the blocks of fewer bytes stay
   pub seeded-behind : (n k at : ℕ) (w w' : List ℕ) → Seeded bounds c m d n w w' → 1 ≤ d → k < m → at ≡ head_at m (d - 1) 0
       → get_or w' (at + k) 0 ≡ longest_at w m (d - 1) k
@@ -93,9 +85,6 @@ module _ (bounds : List ℕ) (c m d : ℕ) where
 
 -- the lows of a list of rows
 module _ (m d : ℕ) (runs : List ℕ) where
-  pub lows-none : (w : List ℕ) → LowsSet m d runs 0 w w
-  lows-none w = record { size = refl; lows = λ i l. absurd (omega arith); kept = λ i l. refl }
-
   pub lows-more : (n at : ℕ) (w w' : List ℕ) → LowsSet m d runs n w w' → at ≡ row_at m d (get_or runs n 0) → at < length w
       → LowsSet m d runs (n + 1) w (set w' at 1)
   lows-more n at w w' p e l =
@@ -127,34 +116,32 @@ module _ (m d : ℕ) (runs : List ℕ) where
   pub row_room : (k l : ℕ) → k < m → 1 ≤ d → area_size m d ≤ l → row_at m d k < l
   row_room k l x one y = omega (arith, row_inside m d k x)
 
--- the mask by the block's number
-pub mask-last : (d : ℕ) → d ≤ 1 → ◌≡◌ {A = ℕ} 0 (cond (leb d 1) 0 255)
-mask-last d l = rw (le-leb d 1 l)
-
-pub mask-later : (d : ℕ) → 1 < d → ◌≡◌ {A = ℕ} 255 (cond (leb d 1) 0 255)
-mask-later d l = rw (lt-leb d 1 l)
-
--- a test as a byte times 255 is a byte
-pub one_byte : (b : Bool) {inside : ℕ} → inside ≡ cond b 1 0 → inside * 255 < 256
-one_byte true e = rw e (omega arith)
-one_byte false e = rw e (omega arith)
+-- the front of a list, as the code lends it
+pub lows-front : (m d : ℕ) (runs : List ℕ) (n : ℕ) (w w' : List ℕ) → n ≤ length runs
+    → LowsSet m d (take n runs) (length (take n runs)) w w' → LowsSet m d runs n w w'
+lows-front m d runs n w w' l p =
+    record {
+      size = p.size;
+      lows = λ i x. rw (get_or-take n runs i 0 x) at (p.lows i (omega (arith, length-take-le n runs l)));
+      kept = p.kept;
+    }
 
 -- a header as the loop computes it
-module _ (bounds : List ℕ) (c m d n : ℕ) (w w' : List ℕ) (p : Seeded bounds c m d n w w') (one : 1 ≤ d) (within : n < m)
-    {before mask : ℕ} (at : before ≡ head_at m (d - 1) 0) (masked : mask ≡ cond (leb d 1) 0 255) (byte : get_or w' (before + n) 0 < 256) where
+module _ (bounds : Bounds) (c m d n : ℕ) (w w' : List ℕ) (p : Seeded bounds c m d n w w') (one : 1 ≤ d) (within : n < m)
+    {before mask : ℕ} (at : before ≡ head_at m (d - 1) 0) (masked : mask ≡ cond (leb d 1) 0 255) (low : 1 < d → longest_at w m (d - 1) n ≤ 254) where
   header-masked : bit_and (get_or w' (before + n) 0) mask ≡ head_behind w m d n
   header-masked =
       let e : get_or w' (before + n) 0 ≡ longest_at w m (d - 1) n = seeded-behind bounds c m d n n before w w' p one within at in
-      rw e (behind-masked m d n w masked (rw e at byte))
+      rw e (behind-masked m d n w masked low)
 
-  pub header-small : (x : ℕ) → (1 < d → longest_at w m (d - 1) n ≤ 254) → bit_and (bit_and (get_or w' (before + n) 0) mask) x ≤ 254
-  header-small x h = rw header-masked (behind-small m d n x w h)
+  pub header-small : (x : ℕ) → bit_and (bit_and (get_or w' (before + n) 0) mask) x ≤ 254
+  header-small x = rw header-masked (behind-small m d n x w low)
 
   pub header-right : {v : ℕ}
       → v
       ≡ cond
-      (in_either (get_or bounds n 0) (get_or bounds (256 + n) 0) (get_or bounds (512 + n) 0) (get_or bounds (768 + n) 0) c)
-      (bit_and (bit_and (get_or w' (before + n) 0) mask) (get_or bounds (1024 + n) 0) + 1)
+      (in_either (get_or bounds.low n 0) (get_or bounds.high n 0) (get_or bounds.low2 n 0) (get_or bounds.high2 n 0) c)
+      (bit_and (bit_and (get_or w' (before + n) 0) mask) (get_or bounds.repeat n 0) + 1)
       0
       → v ≡ cond (in_bounds bounds n c) (bit_and (head_behind w m d n) (repeat_at bounds n) + 1) 0
   unfolding in_bounds repeat_at

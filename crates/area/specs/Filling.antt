@@ -12,6 +12,7 @@ use Rattle.marks.specs.Marks.{marked}
 use Rattle.rows.specs.Layout.{area_size, head_at, row_at, longest_at, tells}
 use Rattle.rows.specs.Rows.{Shaped, Grown}
 use Rattle.area.specs.Area.{part}
+use Rattle.plans.specs.declared.Bounds.{Bounds}
 use Rattle.plans.specs.Plans.{lead, in_bounds, repeat_at, is_plain, wakes}
 
 -- a table that passes, a line that is not too long and an area with room for both
@@ -56,26 +57,26 @@ pub record Base (t : List ℕ) (k j : ℕ) : Type 0 where
   pub same : (u : List ℕ) → spells (exp_of t k) u ≡ spells (star (exp_of t j)) u
 
 -- the headers of plain records that repeat are the numbers of bytes from there on that are in their ranges
-abbrev pub RunsTold : List ℕ → List ℕ → List ℕ → ℕ → List ℕ → Type 0
+abbrev pub RunsTold : List ℕ → Bounds → List ℕ → ℕ → List ℕ → Type 0
 RunsTold t bounds s d w =
     (j c : ℕ) → j < count t → 1 ≤ c → c ≤ d → is_plain bounds j ≡ true → repeat_at bounds j ≡ 255
     → longest_at w (count t) c j ≡ lead (in_bounds bounds j) (drop (length s - c) s)
 
 -- how far the block of all of s is filled: the blocks of fewer bytes, the records below k and the plain records tell the truth; the others
 -- have empty rows
-pub record Progress (t bounds s : List ℕ) (k : ℕ) (w : List ℕ) : Type 0 where
+pub record Progress (t : List ℕ) (bounds : Bounds) (s : List ℕ) (k : ℕ) (w : List ℕ) : Type 0 where
   pub known : Known t s k w
   pub plains : (j : ℕ) → j < count t → is_plain bounds j ≡ true → RowTold t s (length s) j w
   pub runs : RunsTold t bounds s (length s) w
   pub others : (j : ℕ) → k ≤ j → j < count t → is_plain bounds j ≡ false → longest_at w (count t) (length s) j ≡ 0
 
 -- record k was looked at: its row tells the truth, and that of a plain record stayed
-pub record Visited (t bounds s : List ℕ) (k : ℕ) (w w' : List ℕ) : Type 0 where
+pub record Visited (t : List ℕ) (bounds : Bounds) (s : List ℕ) (k : ℕ) (w w' : List ℕ) : Type 0 where
   pub made : Made t s k w w'
   pub stayed : is_plain bounds k ≡ true → w' ≡ w
 
 -- a record that is not plain is marked where a non-empty part of one of the records below k, or of a plain record, may matter to it
-pub record Woken (t bounds s : List ℕ) (k : ℕ) (w marks : List ℕ) : Type 0 where
+pub record Woken (t : List ℕ) (bounds : Bounds) (s : List ℕ) (k : ℕ) (w marks : List ℕ) : Type 0 where
   pub size : length marks ≡ 4
   pub right :
       (i j : ℕ) → i < count t → j < count t → is_plain bounds j ≡ false → wakes t i j ≡ true → (i < k) ⊎ (is_plain bounds i ≡ true)
@@ -88,7 +89,7 @@ pub record MarkedUnless (n i : ℕ) (marks marks' : List ℕ) : Type 0 where
   pub new : ¬ (n ≡ 0) → marked marks' i ≡ true
 
 -- all blocks up to that of s tell the truth
-pub record FilledFor (t bounds s w : List ℕ) : Type 0 where
+pub record FilledFor (t : List ℕ) (bounds : Bounds) (s w : List ℕ) : Type 0 where
   pub rows : (j c : ℕ) → j < count t → c ≤ length s → RowTold t s c j w
   pub runs : RunsTold t bounds s (length s) w
 
@@ -100,7 +101,7 @@ head_behind w m d k = cond (leb d 1) 0 (longest_at w m (d - 1) k)
 
 -- the first n headers of block d are 0 where c is not in the record's ranges, and otherwise 1, or for a record that repeats one more than
 -- in the block of one byte less; all else is kept
-pub record Seeded (bounds : List ℕ) (c m d n : ℕ) (w w' : List ℕ) : Type 0 where
+pub record Seeded (bounds : Bounds) (c m d n : ℕ) (w w' : List ℕ) : Type 0 where
   pub size : length w' ≡ length w
   pub heads : (k : ℕ) → k < n → longest_at w' m d k ≡ cond (in_bounds bounds k c) (bit_and (head_behind w m d k) (repeat_at bounds k) + 1) 0
   pub kept : (i : ℕ) → (i < head_at m d 0) ⊎ (head_at m d n ≤ i) → get_or w' i 0 ≡ get_or w i 0

@@ -13,7 +13,7 @@ use Rattle.lines.specs.Lines.{pick_lines, on_first, lines_of, join_lines, NoEnd,
 use Rattle.lines.proofs.Nexts.{line-ended}
 
 -- an input without a line is empty
-none-empty : (s : List ℕ) → lines_of s ≡ [] → s ≡ []
+pub none-empty : (s : List ℕ) → lines_of s ≡ [] → s ≡ []
 none-empty [] e = refl
 none-empty (c ∷ s) e = go (eqb c 10) (lines_of s) e
   where

@@ -59,13 +59,10 @@ lines_next {s} {from} {end} e l = go (ltb end (length s)) refl
         ∙ line-alone line (omega (arith, size, e.behind)) (next-plain e)
         ∙ ap (λ (x : List ℕ). line ∷ lines_of x) (sym (drop_of_length-le s n))
 
--- the same of the number of lines, n of them counted before the position, and at the input's end
+-- the same of the number of lines, n of them counted before the position
 pub next-counted :
     {s : List ℕ} {from end next : ℕ} (e : NextEnd s from end) → from < length s
     → (n m : ℕ) → n + length (lines_of (drop from s)) ≡ m → next ≡ min (end + 1) (length s)
     → n + 1 + length (lines_of (drop next s)) ≡ m
 next-counted {s} {from} {end} {next} e l n m f g =
     omega (arith, ap length (lines_next e l), ap (λ (i : ℕ). length (lines_of (drop i s))) g)
-
-pub last-counted : (s : List ℕ) (at n m : ℕ) → n + length (lines_of (drop at s)) ≡ m → length s ≤ at → n ≡ m
-last-counted s at n m f l = omega (arith, ap (λ (x : List ℕ). length (lines_of x)) (drop_of_length-le s l))

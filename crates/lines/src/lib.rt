@@ -2,7 +2,7 @@
 
 #![tactic(auto)]
 
-ghost use Rattle.std.specs.Prelude.{suc, ◌+◌, ◌≤◌, ◌<◌, min, ◌≡◌, length};
+ghost use Rattle.std.specs.Prelude.{suc, ◌+◌, ◌≤◌, ◌<◌, min, ◌≡◌, ◌==◌, length, count_by};
 ghost use Rattle.lines.specs.Lines.{lines_of};
 ghost use Rattle.lines.specs.Ends.{NextEnd, Kept};
 
@@ -25,18 +25,22 @@ pub fn next_line(block: &[u8], end: usize) -> usize
     (end + 1).min(block.len())
 }
 
-// How many lines an input has.
+// How many bytes of an input end a line.
+fn count_ends(input: &[u8]) -> usize
+    ensures { result ≡ count_by (λ b. b == 10) input.now }
+{
+    input.iter().filter(|&&b| b == b'\n').count()
+}
+
+// How many lines an input has: one for each byte 10, and one where something stands behind the last.
 pub fn count_lines(input: &[u8]) -> usize
     ensures { result ≡ length (lines_of input.now) }
 {
-    let mut at = 0;
-    let mut count = 0;
-    while at < input.len() {
-        let end = line_end(input, at);
-        at = next_line(input, end);
-        count += 1;
+    let ended = count_ends(input);
+    match input.last() {
+        Some(&last) if last != b'\n' => ended + 1,
+        _ => ended,
     }
-    count
 }
 
 // Takes bytes into the line, of which the first 256 bytes are kept, and returns the number of bytes kept.

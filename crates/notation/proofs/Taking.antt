@@ -93,33 +93,33 @@ module _ {w : Walk} {stack : List Marks} {entry out : List ℕ} where
   close-missing (frame l' m' ∷ fs) (some t) m none s e h = refl
 
 -- ) behind an item, and right behind (
-module _ {w r : Walk} {stack : List Marks} {entry out out' : List ℕ} where
+module _ {w r : Walk} {stack : List Marks} {entry out out' : List ℕ} {depth : ℕ} where
   pub close-taken :
-      (fs : List Frame) (l m i : Held) (n : ℕ) → Shows fs l m i w stack entry out → ¬ (w.depth ≡ 0) → ¬ (w.item ≡ Absent)
+      (fs : List Frame) (l m i : Held) (n : ℕ) → Shows fs l m i w stack entry out → (1 ≤ w.depth) × (depth ≡ w.depth - 1) → ¬ (w.item ≡ Absent)
       → ((t : Tree) → Shows fs l m (some t) w stack entry out → LastPart (outer_parts fs) (all_with l m (some t)) n entry out')
-      → r.count ≡ n → r.marks ≡ get_or stack (w.depth - 1) (record { left = 0; row = 0 }) → r.item ≡ group_item w
-      → r.depth ≡ w.depth - 1
+      → r.count ≡ n → r.marks ≡ get_or stack depth (record { left = 0; row = 0 }) → r.item ≡ group_item w
+      → r.depth ≡ depth
       → Took (closed_in fs l m i) (Some r) stack entry out'
-  close-taken [] l m i n s d h p c mr g e = absurd (d s.depth_right)
+  close-taken [] l m i n s d h p c mr g e = absurd (omega (arith, s.depth_right))
   close-taken (frame l' m' ∷ fs) l m none n s d h p c mr g e = absurd (h s.item_right)
   close-taken (frame l' m' ∷ fs) l m (some t) n s d h p c mr g e =
-      let at : w.depth - 1 ≡ length fs = omega (arith, s.depth_right) in
+      let at : depth ≡ length fs = omega (arith, s.depth_right) in
       let x = joined-some cat m t in
       let y = joined-some alt l x.0 in
       let f : all_with l m (some t) ≡ some y.0 = ap (joined alt l) x.1 ∙ y.1 in
       closes (p t s) s.outer y.0 f c (rw at at mr) (g ∙ group-marked s) (e ∙ at)
 
   pub close-empty :
-      (fs : List Frame) (l m i : Held) → Shows fs l m i w stack entry out → ¬ (w.depth ≡ 0) → w.item ≡ Absent
+      (fs : List Frame) (l m i : Held) → Shows fs l m i w stack entry out → (1 ≤ w.depth) × (depth ≡ w.depth - 1) → w.item ≡ Absent
       → (w.marks.left ≡ 0) × (w.marks.row ≡ 0)
       → out' ≡ stored out w.count (record_bytes 1 0 0 0)
-      → r.count ≡ w.count + 1 → r.marks ≡ get_or stack (w.depth - 1) (record { left = 0; row = 0 }) → r.item ≡ Untagged
-      → r.depth ≡ w.depth - 1
+      → r.count ≡ w.count + 1 → r.marks ≡ get_or stack depth (record { left = 0; row = 0 }) → r.item ≡ Untagged
+      → r.depth ≡ depth
       → Took (closed_in fs l m i) (Some r) stack entry out'
-  close-empty [] l m i s d h nm e c mr g f = absurd (d s.depth_right)
+  close-empty [] l m i s d h nm e c mr g f = absurd (omega (arith, s.depth_right))
   close-empty (frame l' m' ∷ fs) l m i s d h nm e c mr g f =
       let z : (l ≡ none) × (m ≡ none) × (i ≡ none) =
       (mark-none _ l (sym (left-right s) ∙ nm.0), mark-none _ m (sym (row-right s) ∙ nm.1), item-none i (sym s.item_right ∙ h)) in
-      let at : w.depth - 1 ≡ length fs = omega (arith, s.depth_right) in
+      let at : depth ≡ length fs = omega (arith, s.depth_right) in
       let t : Shows (frame l' m' ∷ fs) none none none w stack entry out = rw (z.0, z.1, z.2) at s in
       rw (z.0, z.1, z.2, e) (closes (empty_group t) s.outer (unit 0) refl c (rw at at mr) g (f ∙ at))

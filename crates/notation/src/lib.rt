@@ -26,7 +26,7 @@ pub enum Word {
     Tag(u8),
 }
 
-// The last item: none, or one whose own record is the last, without a tag or with one.
+// The last item: none, or one whose own record, the last, has no tag or has one.
 #[derive(Clone, Copy, PartialEq, Eq)]
 pub enum Item {
     Absent,
@@ -34,7 +34,8 @@ pub enum Item {
     Tagged,
 }
 
-// The marks of two parts, the alternatives up to the last bar and the row since: the record count behind each, 0 where there is none.
+// The marks of two parts: the alternatives up to the last bar, and the row since. A mark is the record count behind its part, 0 where there is
+// none.
 #[derive(Clone, Copy, PartialEq, Eq)]
 pub struct Marks {
     pub left: u16,
@@ -43,14 +44,11 @@ pub struct Marks {
 
 impl Marks {
     // Neither alternatives nor a row.
-    pub const NONE: Marks = Marks {
-        left: 0,
-        row: 0,
-    };
+    pub const NONE: Marks = Marks { left: 0, row: 0 };
 }
 
-// Where the walk over a text stands: the records written so far, the marks of the parts before the last item, that item, and how many
-// parentheses are open.
+// Where the walk over a text stands: the records so far, the marks of what stands before the last item, that item, and how many parentheses are
+// open.
 #[derive(Clone, Copy)]
 pub struct Walk {
     pub count: usize,
@@ -188,8 +186,8 @@ fn number_byte(k: usize) -> u8
     (k % 256) as u8
 }
 
-// Joins the last part, whose root is the last record, to the part before it with the given mark, if there is one, by a record of a kind. Returns
-// the record count.
+// Joins the last part, whose root is the last record, by a record of a kind to the part with the given mark, if there is one. Returns the record
+// count.
 fn join(kind: Kind, mark: u16, count: usize, out: &mut [u8]) -> usize
     requires { (1 ≤ count) × (count ≤ 16384) }
     ensures count { result ≡ join_count mark count }
@@ -285,7 +283,7 @@ fn group_item(walk: Walk) -> Item
     walk.item
 }
 
-// A closing parenthesis: the marks of what stands before its group are back, and the group is the last item.
+// A closing parenthesis: the group is the last item, and the marks are those of what stands before it.
 fn take_close(walk: Walk, stack: &[Marks; 4096], out: &mut [u8]) -> Option<Walk>
     requires { Fit walk 4095 }
     ensures fit { (n : ℕ) → Fit walk n → IfSome result (λ next. Fit next (suc n)) }
@@ -293,10 +291,7 @@ fn take_close(walk: Walk, stack: &[Marks; 4096], out: &mut [u8]) -> Option<Walk>
         → Shows fs l m i walk stack.now entry out.old
         → Took (closed_in fs l m i) result stack.now entry out.new }
 {
-    if walk.depth == 0 {
-        return None;
-    }
-    let depth = walk.depth - 1;
+    let depth = walk.depth.checked_sub(1)?;
     if walk.item != Item::Absent {
         let count = end_row(walk, out);
         return Some(Walk {

@@ -14,6 +14,7 @@ use table::{Kind, Rules};
 
 // For each record two ranges of bytes, 255 where it repeats and otherwise 0, and whether it is plain. A column for each: `area` reads them side
 // by side.
+#[derive(Drop)]
 pub struct Bounds {
     pub low: [u8; 256],
     pub high: [u8; 256],
@@ -105,7 +106,7 @@ impl Bounds {
 // The columns of an Or: plain where both children are Ranges.
 fn find_or(table: &Rules, k: usize, bounds: &mut Bounds)
     requires passes { Passes table.now }
-    requires record { k < count table.now }
+    requires inside { k < count table.now }
     requires kind { kind_at table.now k ≡ 3 }
     requires bounded { Bounded table.now k bounds.old }
     ensures { Bounded table.now (k + 1) bounds.new }
@@ -126,7 +127,7 @@ fn find_or(table: &Rules, k: usize, bounds: &mut Bounds)
 // The columns of a Star: plain where it repeats a plain record that does not repeat.
 fn find_star(table: &Rules, k: usize, bounds: &mut Bounds)
     requires passes { Passes table.now }
-    requires record { k < count table.now }
+    requires inside { k < count table.now }
     requires kind { kind_at table.now k ≡ 5 }
     requires bounded { Bounded table.now k bounds.old }
     ensures { Bounded table.now (k + 1) bounds.new }
@@ -142,7 +143,7 @@ fn find_star(table: &Rules, k: usize, bounds: &mut Bounds)
 // The columns of a Seq: plain where a record that does not repeat is followed by a Star of the same ranges.
 fn find_seq(table: &Rules, k: usize, bounds: &mut Bounds)
     requires passes { Passes table.now }
-    requires record { k < count table.now }
+    requires inside { k < count table.now }
     requires kind { kind_at table.now k ≡ 4 }
     requires bounded { Bounded table.now k bounds.old }
     ensures { Bounded table.now (k + 1) bounds.new }
@@ -159,7 +160,7 @@ fn find_seq(table: &Rules, k: usize, bounds: &mut Bounds)
 
 // The columns of record k.
 fn find_bounds_of(table: &Rules, k: usize, bounds: &mut Bounds)
-    requires record { k < count table.now }
+    requires inside { k < count table.now }
     requires bounded { Bounded table.now k bounds.old }
     ensures { Bounded table.now (k + 1) bounds.new }
 {
@@ -188,7 +189,7 @@ fn find_bounds(table: &Rules, bounds: &mut Bounds)
 
 // Whether record k spells the empty line, by what is set for its children.
 fn spells_empty(table: &Rules, work: &[u8], k: usize) -> bool
-    requires record { k < count table.now }
+    requires inside { k < count table.now }
     requires room { count table.now ≤ length work.now }
     requires empty_told { EmptyTold table.now k work.now }
     ensures { result ≡ spells (exp_of table.now k) [] }
@@ -218,7 +219,7 @@ fn find_empty(table: &Rules, work: &mut [u8])
 // Notes record k as the one that a part of its children may matter to, where it is not plain.
 fn find_parent(table: &Rules, bounds: &Bounds, work: &[u8], k: usize, up: &mut [u8; 256])
     requires passes { Passes table.now }
-    requires record { k < count table.now }
+    requires inside { k < count table.now }
     requires room { count table.now ≤ length work.now }
     requires empty_told { EmptyTold table.now (count table.now) work.now }
     requires parents { Parents table.now bounds.now k up.old }
@@ -259,7 +260,7 @@ fn find_parents(table: &Rules, bounds: &Bounds, work: &[u8], up: &mut [u8; 256])
 
 // Marks record k in the sets of the bytes from `low` up to `high`.
 fn wake_by(sets: &mut [u64; 1024], k: usize, low: usize, high: usize)
-    requires record { k < 256 }
+    requires inside { k < 256 }
     requires bytes { high ≤ 256 }
     ensures { MarkedIn k low high sets.old sets.new }
 {
@@ -270,7 +271,7 @@ fn wake_by(sets: &mut [u64; 1024], k: usize, low: usize, high: usize)
 
 // Marks the record that record k may matter to in the set of each byte of k's ranges.
 fn wake_parent_of(bounds: &Bounds, up: &[u8; 256], k: usize, sets: &mut [u64; 1024])
-    requires record { k < 256 }
+    requires inside { k < 256 }
     requires waking { Waking bounds.now up.now k sets.old }
     ensures { Waking bounds.now up.now (k + 1) sets.new }
 {
@@ -295,7 +296,7 @@ fn find_sets(m: usize, bounds: &Bounds, up: &[u8; 256], sets: &mut [u64; 1024])
 
 // Lists record k where it repeats; `n` are listed so far. Returns how many are listed.
 fn list_run(bounds: &Bounds, k: usize, runs: &mut [u8; 256], n: usize) -> usize
-    requires record { k < 256 }
+    requires inside { k < 256 }
     requires listed { Listed bounds.now k runs.old n }
     ensures { Listed bounds.now (k + 1) runs.new result }
 {
@@ -320,6 +321,7 @@ fn find_runs(m: usize, bounds: &Bounds, runs: &mut [u8; 256]) -> usize
 
 // What is found of a table: its records' columns; at each record the one that a part of it may matter to; 256 bits for each byte, the records to
 // look at first there; and the records that repeat, the first `run_count` numbers of `runs`.
+#[derive(Drop)]
 pub struct Plan {
     pub bounds: Bounds,
     pub up: [u8; 256],
@@ -333,6 +335,7 @@ impl Plan {
     pub fn of(table: &Rules, work: &mut [u8]) -> Plan
         requires { count table.now ≤ length work.old }
         ensures planned { Planned table.now result }
+        ensures passes { Passes table.now }
         ensures empty_told { EmptyTold table.now (count table.now) work.new }
         ensures length { length work.new ≡ length work.old }
     {

@@ -4,10 +4,11 @@ use Prim.Native.Nat.{ℕ, zero, suc, ◌-◌, ◌≤◌, ◌<◌}
 use native.Mathlib.Nat.{eq-or-lt_of_le}
 use native.Mathlib.Omega.{arith}
 use mathlib.Core.Path.{◌≡◌, refl, sym, ◌∙◌}
-use mathlib.Core.Logic.{◌⊎◌, inl, inr, ⊎_elim}
+use mathlib.Core.Logic.{⊎_elim}
 use mathlib.Core.Bool.{Bool, true, false, true≢false}
-use lib.Dec.{leb, ltb}
-use borrow.Author.Tests.{leb-true, le-leb, ltb-true, ltb-false}
+use lib.Dec.{leb}
+use borrow.Author.Tests.{leb-true, le-leb}
+pub use Rattle.std.proofs.lemmas.Bool.{cases_lt as below_or, false_from_ne_true as never_true}
 use Rattle.posix.proofs.Spells.{either, each, or-second}
 use Rattle.rows.specs.Cuts.{some, cut_at}
 
@@ -16,19 +17,6 @@ pub same_truth : (a b : Bool) → (a ≡ true → b ≡ true) → (b ≡ true �
 same_truth true b f g = sym (f refl)
 same_truth false true f g = g refl
 same_truth false false f g = refl
-
--- a test that cannot be true is false
-pub never_true : (a : Bool) → ¬ (a ≡ true) → a ≡ false
-never_true true n = absurd (n refl)
-never_true false n = refl
-
--- a number is below a bound or not
-pub below_or : (x y : ℕ) → (x < y) ⊎ (y ≤ x)
-below_or x y = go (ltb x y) refl
-  where
-    go : (b : Bool) → ltb x y ≡ b → (x < y) ⊎ (y ≤ x)
-    go true h = inl (ltb-true x y h)
-    go false h = inr (ltb-false x y h)
 
 pub some-found : (f : ℕ → Bool) (n : ℕ) → some f n ≡ true → (c : ℕ) × (c < n) × (f c ≡ true)
 unfolding some

@@ -8,19 +8,20 @@ use Rattle.area.proofs.fill_seq_of_star.Goals as goal
 pub base_of-base-requires : goal.base_of-base-requires
 base_of-base-requires c =
     let e = c.a_at.ensures in
-    record { passes = c.requires.ready.known.sized.passes; k_bound = omega (arith, c.requires.ready.number, a-child _ _ _ _ c.requires.ready (inr c.requires.k_value), e); k_value = rw e c.requires.k_value_2 }
+    record { passes = c.requires.ready.known.sized.passes; inside = omega (arith, c.requires.ready.number, a-child _ _ _ _ c.requires.ready (inr c.requires.kind), e); kind = rw e c.requires.child }
 
 pub add-requires : goal.add-requires
 add-requires c =
-    let x = seq-first _ _ _ _ c.requires.ready c.requires.k_value c.b_at.ensures in
-    record { growing = x.0; earlier = x.1 }
+    let x = seq-first _ _ _ _ c.requires.ready c.requires.kind c.b_at.ensures in
+    record { growing = rw c.count-m.ensures.count x.0; earlier = rw c.count-m.ensures.count x.1 }
 
 pub add_cuts-requires : goal.add_cuts-requires
 add_cuts-requires c =
-    of-star-cutting _ _ _ _ c.requires.ready c.requires.k_value c.a_at.ensures c.b_at.ensures _ c.add.ensures
-    (rw c.a_at.ensures at c.base_of-base.ensures)
+    rw c.count-m.ensures.count
+    (of-star-cutting _ _ _ _ c.requires.ready c.requires.kind c.a_at.ensures c.b_at.ensures _ (rw c.count-m.ensures.count at c.add.ensures)
+    (rw c.a_at.ensures at c.base_of-base.ensures))
 
 pub returns : goal.returns
 returns c =
-    of-star-made _ _ _ _ c.requires.ready c.requires.k_value c.a_at.ensures c.b_at.ensures _ c.add.ensures
-    (rw c.a_at.ensures at c.base_of-base.ensures) _ c.add_cuts.ensures
+    of-star-made _ _ _ _ c.requires.ready c.requires.kind c.a_at.ensures c.b_at.ensures _ (rw c.count-m.ensures.count at c.add.ensures)
+    (rw c.a_at.ensures at c.base_of-base.ensures) _ (rw c.count-m.ensures.count at c.add_cuts.ensures)

@@ -1,9 +1,9 @@
--- `lines::count_lines` meets its contract. The loop's invariant: the lines counted and those from the position on are all lines, and each that was
--- counted took a byte; the measure is what is left of the input. Assumes nothing.
-use native.Mathlib.Omega.{arith}
-use Rattle.lines.proofs.Nexts.{next-counted}
+-- `lines::count_lines` meets its contract: by the last byte. Assumes nothing.
+use Rattle.lines.proofs.Counting.{counted-open, counted-ended}
 use Rattle.lines.proofs.count_lines.Goals as goal
 
-pub loop-at-preserved : goal.loop-at-preserved
-loop-at-preserved c =
-    (omega arith, omega arith, next-counted c.line_end-end.ensures (omega arith) _ _ c.loop-at.invariant.2 c.next_line-at.ensures)
+pub returns-in-Some : goal.returns-in-Some
+returns-in-Some c = counted-open c.args.input.now _ _ c.count_ends-ended.ensures c.in-Some.ensures.value c.if-last-ne10.true
+
+pub returns-in_default : goal.returns-in_default
+returns-in_default c = counted-ended c.args.input.now _ _ c.count_ends-ended.ensures c.in-Some.ensures.value c.if-last-ne10.false

@@ -6,10 +6,14 @@ use Rattle.notation.proofs.Compiling.{within, not-whole, too_many, too_short, wa
 use Rattle.notation.proofs.compile.Goals as goal
 
 pub returns-then-count-gt255 : goal.returns-then-count-gt255
-returns-then-count-gt255 c = let a = too_many c.args.text.now c.args.out.now _ (sym c.in-Ok.is ∙ c.count_text.ensures) (omega arith) in record { answer = a.says_right; buffer = a.leaves_right }
+returns-then-count-gt255 c =
+    let a = too_many c.args.text.now c.args.out.now _ (sym c.in-Ok.is ∙ c.count_text.ensures) (omega arith) in
+    record { answer = a.says_right; buffer = a.leaves_right }
 
 pub returns-then-out-count : goal.returns-then-out-count
-returns-then-out-count c = let a = too_short c.args.text.now c.args.out.now _ (sym c.in-Ok.is ∙ c.count_text.ensures) (omega arith) (omega arith) in record { answer = a.says_right; buffer = a.leaves_right }
+returns-then-out-count c =
+    let a = too_short c.args.text.now c.args.out.now _ (sym c.in-Ok.is ∙ c.count_text.ensures) (omega arith) (omega arith) in
+    record { answer = a.says_right; buffer = a.leaves_right }
 
 pub walk_text-requires : goal.walk_text-requires
 walk_text-requires c = within c.args.text.now _ (sym c.in-Ok.is ∙ c.count_text.ensures)

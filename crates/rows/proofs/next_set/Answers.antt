@@ -10,7 +10,3 @@ returns-then-work-start-ne0 c =
 
 pub loop-i-preserved : goal.loop-i-preserved
 loop-i-preserved c = passed-more _ _ _ _ c.loop-i.invariant c.if-work-start-ne0.false
-
-pub returns : goal.returns
-returns c =
-    record { not_before = omega arith; not_behind = omega arith; passed = λ j l h. c.loop-i.invariant j l (omega arith); found = λ h. absurd (omega arith) }

@@ -20,10 +20,6 @@ bounds-work-s c =
 pub returns-then-p-eq0 : goal.returns-then-p-eq0
 returns-then-p-eq0 c = add_nothing _ _ _ _ _ _ c.requires.growing c.if-p-eq0.true c.if-work-s-eq0.true
 
-pub add_row-requires-then-work-s-eq0 : goal.add_row-requires-then-work-s-eq0
-add_row-requires-then-work-s-eq0 c =
-    record { growing = c.requires.growing; earlier = c.requires.earlier; le_p = omega (arith, c.if-p-eq0.false) }
-
 pub returns-then-work-s-eq0 : goal.returns-then-work-s-eq0
 returns-then-work-s-eq0 c = add-no-empty _ _ _ _ _ _ _ c.if-work-s-eq0.true c.add_row-then-work-s-eq0.ensures
 
@@ -32,6 +28,6 @@ returns-then-p-eq0-2 c =
     let none = c.if-p-eq0-2.true in
     add-only-empty _ _ _ _ _ _ _ none c.if-work-s-eq0.false c.add_run.ensures
 
-pub add_row_and_empty-requires : goal.add_row_and_empty-requires
-add_row_and_empty-requires c =
-    record { growing = c.requires.growing; earlier = c.requires.earlier; le_p = (omega (arith, c.if-p-eq0-2.false), omega (arith, c.requires.earlier.within, c.if-p-self.false)); spells_empty = tells-empty _ _ _ _ ∙ set-byte _ c.if-work-s-eq0.false }
+pub add_row_and_empty-requires-clause-spells_empty : goal.add_row_and_empty-requires-clause-spells_empty
+add_row_and_empty-requires-clause-spells_empty c =
+    tells-empty _ _ _ _ ∙ set-byte _ c.if-work-s-eq0.false

@@ -4,10 +4,10 @@ use mathlib.Core.Path.{refl}
 use Rattle.rows.proofs.Marking.{explicit-open, explicit-grown}
 use Rattle.rows.proofs.Row.add_marks.Goals as goal
 
-pub raise_run-requires : goal.raise_run-requires
-raise_run-requires c =
+pub raise_run-requires-clause-is_open : goal.raise_run-requires-clause-is_open
+raise_run-requires-clause-is_open c =
     let long = c.longest-h.ensures.0 in
-    record { is_open = explicit-open c.requires.growing c.without_run.ensures _ long; le_low = c.requires.le_low; long = rw long c.requires.long }
+    explicit-open c.requires.growing c.without_run.ensures _ long
 
 pub returns : goal.returns
 returns c =

@@ -2,22 +2,16 @@
 -- Assumes nothing.
 use native.Mathlib.Omega.{arith}
 use Rattle.rows.proofs.Growing.{row-there, no-run-long, told-no_run}
-use Rattle.rows.proofs.Joining.{grown-none, closed_run}
+use Rattle.rows.proofs.Joining.{closed_run}
 use Rattle.rows.proofs.Row.close_row.Goals as goal
-
-pub returns-then-is_some : goal.returns-then-is_some
-returns-then-is_some c = grown-none c.requires.shape
 
 pub all_set-requires : goal.all_set-requires
 all_set-requires c = omega (arith, c.start-at.ensures, c.min-end.ensures, row-there c.requires.inside)
 
-pub returns-then-not-all_set : goal.returns-then-not-all_set
-returns-then-not-all_set c = grown-none c.requires.shape
-
-pub set_run-requires : goal.set_run-requires
-set_run-requires c =
+pub set_run-requires-clause-le_low : goal.set_run-requires-clause-le_low
+set_run-requires-clause-le_low c =
     let long = no-run-long c.args.work.now c.args.self.m c.args.self.d c.args.self.k (told-no_run _ _ _ _ _ c.lowest.ensures c.if-is_some.ensures) in
-    record { inside = c.requires.inside; le_low = (omega arith, omega (arith, c.longest-h.ensures.0), omega (arith, c.longest-h.ensures.0, c.requires.shape.small)) }
+    (omega arith, omega (arith, c.longest-h.ensures.0), omega (arith, c.longest-h.ensures.0, c.requires.shape.small))
 
 pub returns : goal.returns
 returns c =

@@ -1,16 +1,11 @@
 -- `rows::Row::low_behind` meets its contract: a run without the empty part, or one from 1 on with it.
 -- Assumes nothing.
 use Rattle.rows.proofs.Growing.{record-there}
-use Rattle.rows.proofs.Reaching.{high-some, high-longest, low-empty, low-rest, low-all}
+use Rattle.rows.proofs.Reaching.{low-empty, low-rest, low-all}
 use Rattle.rows.proofs.Row.low_behind.Goals as goal
 
 pub returns-then-h-eq0 : goal.returns-then-h-eq0
 returns-then-h-eq0 c = low-empty _ _ _ _ _ c.requires.longest c.if-h-eq0.true (c.requires.spells_empty c.if-h-eq0.true)
-
-pub lowest-requires : goal.lowest-requires
-lowest-requires c =
-    let one = high-some _ _ _ _ _ c.requires.longest c.if-h-eq0.false in
-    record { inside = c.requires.inside; le_d = one; longest = high-longest _ _ _ _ _ c.requires.longest one }
 
 pub bounds-work-self : goal.bounds-work-self
 bounds-work-self c = record-there c.requires.inside

@@ -2,7 +2,7 @@
 -- Assumes nothing.
 use Prim.Native.Nat.{◌+◌}
 use native.Mathlib.Omega.{arith}
-use Rattle.rows.proofs.Growing.{row-there, row-bound, marked-put, marked-none}
+use Rattle.rows.proofs.Growing.{row-there, row-bound, marked-put}
 use Rattle.rows.proofs.Row.mark_lengths.Goals as goal
 
 pub overflow_add-to : goal.overflow_add-to
@@ -16,8 +16,3 @@ returns-then-low-end c =
     marked-put c.args.self.m c.args.self.d c.args.self.k c.args.low c.args.high _ c.requires.le_low
     (c.start.result + c.args.low) c.min-end.result _ (omega arith) c.min-end.ensures c.if-low-end.true
     c.put.ensures
-
-pub returns-else-low-end : goal.returns-else-low-end
-returns-else-low-end c =
-    marked-none c.args.self.m c.args.self.d c.args.self.k c.args.low c.args.high _ c.requires.le_low
-    c.min-end.result c.min-end.ensures c.if-low-end.false

@@ -15,9 +15,9 @@ returns-in-Some c =
     let run = told-some _ _ _ _ _ c.requires.run _ c.in-Some.is in
     (omega arith, length_run _ _ _ _ c.requires.growing _ _ c.requires.longest _ run.lowest c.requires.le_from.0 c.if-h-from.false run.positive _ c.max.ensures)
 
-pub next_set-requires : goal.next_set-requires
-next_set-requires c =
-    record { from_le_end = omega arith; end_in_bounds = omega (arith, c.requires.growing.inside.room, c.requires.growing.inside.short, c.requires.longest, row_inside c.args.self.m c.args.self.d c.args.self.k c.requires.growing.inside.known) }
+pub next_set-requires-clause-end_in_bounds : goal.next_set-requires-clause-end_in_bounds
+next_set-requires-clause-end_in_bounds c =
+    omega (arith, c.requires.growing.inside.room, c.requires.growing.inside.short, c.requires.longest, row_inside c.args.self.m c.args.self.d c.args.self.k c.requires.growing.inside.known)
 
 pub returns-in-Some-next_set : goal.returns-in-Some-next_set
 returns-in-Some-next_set c =

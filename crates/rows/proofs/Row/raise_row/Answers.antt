@@ -19,14 +19,6 @@ pub join-requires : goal.join-requires
 join-requires c =
     record { room = omega (arith, row-there c.requires.is_open.inside); apart = omega (arith, earlier-row c.requires.is_open.inside c.requires.earlier) }
 
-pub overflow_add-self : goal.overflow_add-self
-overflow_add-self c =
-    omega (arith, (c.requires.earlier.shape c.requires.le_p).small)
-
-pub overflow_cast-work : goal.overflow_cast-work
-overflow_cast-work c =
-    omega (arith, (c.requires.earlier.shape c.requires.le_p).small)
-
 pub bounds-work-at : goal.bounds-work-at
 bounds-work-at c =
     omega (arith, head-there c.requires.is_open.inside, c.join.ensures.size)

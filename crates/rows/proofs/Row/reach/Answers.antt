@@ -2,19 +2,13 @@
 -- Assumes nothing.
 use Prim.Native.Nat.{◌+◌, ◌≤◌}
 use native.Mathlib.Omega.{arith}
-use mathlib.Core.Path.{◌≡◌, ◌∙◌}
+use mathlib.Core.Path.{◌∙◌}
 use Rattle.rows.proofs.Bytes.{set-byte}
 use Rattle.rows.proofs.Growing.{record-there}
 use Rattle.rows.proofs.Joining.{tells-empty, block_inside}
-use Rattle.rows.proofs.Reaching.{high_small, reached-none, reached-pass, reached-more, reached-full}
+use Rattle.rows.proofs.Reaching.{high_small, reached-pass, reached-more, reached-full}
 use Rattle.rows.proofs.Row.reach.Goals as goal
 use Rattle.rows.proofs.Row.reach.Goals.{else-h-eq0-via-then-h-eq0+else-work-self-eq0, else-h-eq0-via-else-h-eq0}
-
-pub loop-i-init : goal.loop-i-init
-loop-i-init c = record {
-  reached = reached-none _ _ _ _ _ _ _ _ c.requires.le_c.1 c.requires.le_low.0 c.requires.le_low.1 c.requires.le_low.2;
-  within = omega arith;
-}
 
 pub high_behind-h-requires : goal.high_behind-h-requires
 high_behind-h-requires c = block_inside _ _ _ _ _ c.requires.inside c.requires.inside.known _ (omega arith)
@@ -29,19 +23,17 @@ loop-i-preserved-then-work-self-eq0 c =
       within = omega arith;
     }
 
-pub low_behind-requires : goal.low_behind-requires
-low_behind-requires c = record {
-  inside = block_inside _ _ _ _ _ c.requires.inside c.requires.inside.known _ (omega arith);
-  -- the row behind it is as rows are kept
-  shaped = λ x. c.requires.second_shape _ x (omega (arith, c.loop-i.invariant.reached.not_before));
-  longest = c.high_behind-h.ensures.0;
-  -- where no length is behind it, the empty part is
-  spells_empty = λ z.
-      elim c.else-h-eq0.branch [
-        | else-h-eq0-via-then-h-eq0+else-work-self-eq0 w ↦ tells-empty _ _ _ _ ∙ set-byte _ w.if-work-self-eq0.false
-        | else-h-eq0-via-else-h-eq0 w ↦ absurd (w.if-h-eq0.false z)
-      ];
-}
+pub low_behind-requires-clause-inside : goal.low_behind-requires-clause-inside
+low_behind-requires-clause-inside c =
+    block_inside _ _ _ _ _ c.requires.inside c.requires.inside.known _ (omega arith)
+
+pub low_behind-requires-clause-spells_empty : goal.low_behind-requires-clause-spells_empty
+low_behind-requires-clause-spells_empty c =
+    λ z.
+    elim c.else-h-eq0.branch [
+      | else-h-eq0-via-then-h-eq0+else-work-self-eq0 w ↦ tells-empty _ _ _ _ ∙ set-byte _ w.if-work-self-eq0.false
+      | else-h-eq0-via-else-h-eq0 w ↦ absurd (w.if-h-eq0.false z)
+    ]
 
 pub returns-then-bottom-i : goal.returns-then-bottom-i
 returns-then-bottom-i c =
@@ -60,7 +52,3 @@ loop-i-preserved c =
           c.in-Some.ensures _ c.in-Some-join_low.ensures _ c.max-top.ensures;
       within = omega arith;
     }
-
-pub returns : goal.returns
-returns c =
-    let e : c.max.result ≡ c.loop-i.i = omega (arith, c.loop-i.invariant.reached.not_before) in rw e c.loop-i.invariant.reached

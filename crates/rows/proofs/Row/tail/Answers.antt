@@ -5,9 +5,6 @@ use Rattle.rows.proofs.Growing.{row-there, row-bound}
 use Rattle.rows.proofs.Tails.{tail-whole, tail_more}
 use Rattle.rows.proofs.Row.tail.Goals as goal
 
-pub returns-then-h-self : goal.returns-then-h-self
-returns-then-h-self c = record { still_tail = c.requires.tail; lower_bound = c.requires.le_t }
-
 pub loop-i-init : goal.loop-i-init
 loop-i-init c = record {
   tail = tail-whole _ _ _ _ c.requires.growing _ c.requires.written_out c.if-h-self.false _ _ c.requires.tail c.min-i.ensures;
@@ -20,15 +17,9 @@ overflow_add-at c = omega (arith, row-bound c.requires.growing.inside, c.require
 pub bounds-work-at : goal.bounds-work-at
 bounds-work-at c = omega (arith, row-there c.requires.growing.inside)
 
-pub returns-then-work-at-eq0 : goal.returns-then-work-at-eq0
-returns-then-work-at-eq0 c = record { still_tail = λ e a b. c.loop-i.invariant.tail e (omega arith) b; lower_bound = omega arith }
-
 pub loop-i-preserved : goal.loop-i-preserved
 loop-i-preserved c =
     let v = c.loop-i.invariant in record {
       tail = tail_more _ _ _ _ c.requires.growing _ c.requires.written_out c.if-h-self.false _ _ c.start-at.ensures c.loop-i-test.true v.within v.tail c.if-work-at-eq0.false;
       within = omega arith;
     }
-
-pub returns : goal.returns
-returns c = record { still_tail = λ e a b. c.loop-i.invariant.tail e (omega arith) b; lower_bound = omega arith }
