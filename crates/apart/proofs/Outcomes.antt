@@ -2,7 +2,7 @@
 -- Assumes nothing.
 use Prim.Native.Nat.{ℕ, ◌+◌, ◌*◌, ◌<◌}
 use native.Mathlib.Omega.{arith}
-use mathlib.Core.Path.{◌≡◌, sym, ◌∙◌}
+use mathlib.Core.Path.{◌≡◌, refl, sym, ◌∙◌}
 use mathlib.Core.Logic.{inl}
 use mathlib.Core.Bool.{Bool, false, cond}
 use mathlib.Core.List.{List}
@@ -10,6 +10,9 @@ use borrow.Author.Tests.{ne_eqb}
 use lib.Dec.{eqb}
 use lib.ListN.{length}
 use Rattle.table.specs.declared.Refusal.{Refusal}
+use Rattle.table.specs.declared.Kind.{Kind}
+use Rattle.table.specs.declared.Kind.TheVariants.{Nothing, Empty, Range, Or, Seq, Star, Other}
+use Rattle.table.specs.Kinds.{number_of}
 use Rattle.std.specs.Prelude.{Result, Ok, Err}
 use Rattle.table.specs.Records.{count, kind_at, a_at, b_at}
 use Rattle.table.specs.Answers.{Said, gives, refusal, rules_say}
@@ -35,6 +38,16 @@ pub outcome-refused :
     (t : List ℕ) (k : ℕ) (r : Result (List ℕ) Refusal) (why : Refusal) → rules_say r ≡ if_start t k (gives (count t)) → r ≡ Err why → Right t k (refusal why)
 unfolding apart_says
 outcome-refused t k r why e f = right t k (refusal why) (not-admitted t k r why e f (gives (cond (seen_apart t k) 1 0)))
+
+-- a kind that is no Or has another number
+pub other_number : (x : Kind) → (x ≡ Or → ⊥) → number_of x ≡ 3 → ⊥
+other_number Nothing n e = omega (arith, e)
+other_number Empty n e = omega (arith, e)
+other_number Range n e = omega (arith, e)
+other_number Or n e = n refl
+other_number Seq n e = omega (arith, e)
+other_number Star n e = omega (arith, e)
+other_number Other n e = omega (arith, e)
 
 module _ (t : List ℕ) (k : ℕ) (w : Admitted t k) where
   module _ (kind : ℕ) (e : kind ≡ kind_at t k) where

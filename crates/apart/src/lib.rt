@@ -41,7 +41,10 @@ fn all_shared(table: &Rules, i: usize, j: usize) -> u8
 fn told_apart(shared: u8) -> bool
     ensures { Told shared result }
 {
-    shared & 128 == 0 && shared & 3 != 3
+    if shared & 128 != 0 {
+        return false;
+    }
+    shared & 3 != 3
 }
 
 // Apart: 1 where the alternatives of Or record k are seen to share no line, 0 where that is not known or record k is no Or.
@@ -50,10 +53,14 @@ pub fn apart(table: &[u8], k: usize) -> Result<usize, Refusal>
     ensures yes { says result ≡ gives 1 → Apart table.now k }
 {
     let rules = reading::admit(table, k)?;
-    if let Kind::Or = rules.kind_at(k) {
-        let a = rules.a_at(k) as usize;
-        let b = rules.b_at(k) as usize;
-        return Ok(told_apart(all_shared(&rules, a, b)) as usize);
+    let Kind::Or = rules.kind_at(k) else {
+        return Ok(0);
+    };
+    let a = rules.a_at(k) as usize;
+    let b = rules.b_at(k) as usize;
+    if told_apart(all_shared(&rules, a, b)) {
+        Ok(1)
+    } else {
+        Ok(0)
     }
-    Ok(0)
 }

@@ -8,7 +8,7 @@ ghost use Rattle.cases.specs.Tables.{T1, T2, T3, T4, Remark, NoByte, AllBut5, Cr
 ghost use Rattle.cases.specs.Cases.{B-reading, B-length, B-number, B-count, B-first, C-reading, D-reading, F-reading, G-rival, Remark-reading, Remark-unfit, Gust-there, Gust-absent, Blank-reading, D-written};
 
 use std::io;
-use table::Answer;
+use table::Refusal;
 
 fn t1() -> [u8; 40]
     ensures { result ≡ T1 }
@@ -179,12 +179,11 @@ fn d_written() -> [u8; 52]
 }
 
 // An answer: `gives` and the result, or `refuses`, the number and the detail.
-fn show_answer(rt: &impl Print, answer: Answer) -> io::Result<()> {
+fn show_answer(rt: &impl Print, answer: Result<usize, Refusal>) -> io::Result<()> {
     match answer {
-        Answer::Done(n) => print!(rt; " gives {n}"),
-        Answer::Refused(why) => {
-            let numbers = table::numbers_of(why);
-            print!(rt; " refuses {} {}", numbers.number, numbers.detail)
+        Ok(n) => print!(rt; " gives {n}"),
+        Err(why) => {
+            print!(rt; " refuses {} {}", why.number(), why.detail())
         }
     }
 }

@@ -3,15 +3,13 @@
 #![tactic(auto)]
 
 use std::io;
-use table::Answer;
 
 // Check's answer for one table.
 fn show(rt: &impl Print, bytes: &[u8]) -> io::Result<()> {
     match table::check(bytes) {
-        Answer::Done(m) => println!(rt; "{m}"),
-        Answer::Refused(why) => {
-            let numbers = table::numbers_of(why);
-            println!(rt; "refused {} {}", numbers.number, numbers.detail)
+        Ok(m) => println!(rt; "{m}"),
+        Err(why) => {
+            println!(rt; "refused {} {}", why.number(), why.detail())
         }
     }
 }

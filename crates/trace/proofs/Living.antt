@@ -20,8 +20,7 @@ use Rattle.reading.proofs.Saying.{said_or}
 use Rattle.matcher.specs.Calls.{work_size}
 use Rattle.live.specs.declared.LiveLine.{LiveLine}
 use Rattle.live.specs.declared.Facts.{Facts}
-use Rattle.live.specs.declared.Heard.{Heard}
-use Rattle.live.specs.declared.Heard.TheVariants.{Known, Refused}
+use Rattle.std.specs.Prelude.{Result, Ok, Err}
 use Rattle.live.specs.Lines.{table_of, bytes_of, lengthened, shortened}
 use Rattle.live.specs.Calls.{facts_number, heard_says, new_says, if_held, line_says, add_says, take_back_says}
 use Rattle.trace.specs.Numbers.{Small}
@@ -39,11 +38,11 @@ facts-number true false = refl
 facts-number false true = refl
 facts-number false false = refl
 
-pub known-number : (heard : Heard) (f : Facts) → heard ≡ Known f → bool_byte f.reads + 2 * bool_byte f.extends ≡ number (heard_says heard)
+pub known-number : (heard : Result Facts Refusal) (f : Facts) → heard ≡ Ok f → bool_byte f.reads + 2 * bool_byte f.extends ≡ number (heard_says heard)
 known-number heard f e = rw e (facts-number f.reads f.extends)
 
-pub refused-small : (heard : Heard) (why : Refusal) → heard ≡ Err why → Small (heard_says heard) → Small (refusal why)
-refused-small heard why e h = subst (λ (x : Heard). Small (heard_says x)) e h
+pub refused-small : (heard : Result Facts Refusal) (why : Refusal) → heard ≡ Err why → Small (heard_says heard) → Small (refusal why)
+refused-small heard why e h = subst (λ (x : Result Facts Refusal). Small (heard_says x)) e h
 
 -- two facts
 facts-small : (reads extended : Bool) → facts_number reads extended < 4294967296

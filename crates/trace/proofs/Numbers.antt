@@ -1,23 +1,16 @@
--- The number of a refusal, put together from the refusal's number and detail; and no two answers of the allowed size have one number.
+-- A refusal's number and detail fit the number that they make up; and no two answers of the allowed size have one number.
 -- Assumes nothing.
 use Prim.Native.Nat.{ℕ, ◌+◌, ◌*◌}
 use mathlib.Core.Path.{◌≡◌, sym, ap, ap₂, subst}
 use native.Mathlib.Omega.{arith}
-use Rattle.table.specs.Answers.{Said, gives, refuses, refusal, says, number}
+use Rattle.table.specs.Answers.{Said, gives, refuses, refusal, number_in, detail_in, number}
+use Rattle.table.proofs.Refusals.{refusal-shown}
 use Rattle.table.specs.declared.Refusal.{Refusal}
-use Rattle.std.specs.Prelude.{Result, Ok, Err}
 use Rattle.trace.specs.Numbers.{Small}
 
--- a refusal's number and detail are small where the answer is
-pub refusal-small :
-    (a : Result ℕ Refusal) (why : Refusal) (n d : ℕ) → Small (says a) → a ≡ Err why → refuses n d ≡ refusal why → Small (refuses n d)
-refusal-small a why n d s e f =
-    subst (λ (x : Said). Small x) (sym f) (subst (λ (b : Result ℕ Refusal). Small (says b)) e s)
-
--- and make up its number
-pub refusal-number :
-    (a : Result ℕ Refusal) (why : Refusal) (n d : ℕ) → a ≡ Err why → refuses n d ≡ refusal why → n * 4294967296 + d ≡ number (says a)
-refusal-number a why n d e f = rw e (ap number f)
+-- a refusal's number and detail are small where it is
+pub refusal-small : (why : Refusal) → Small (refusal why) → Small (refuses (number_in (refusal why)) (detail_in (refusal why)))
+refusal-small why s = subst (λ (x : Said). Small x) (sym (refusal-shown why)) s
 
 -- two answers of the allowed size with one number are one answer
 pub same_number : (x y : Said) → Small x → Small y → number x ≡ number y → x ≡ y

@@ -12,6 +12,7 @@ use Rattle.reading.proofs.Admission.{refusal-numbers}
 use Rattle.tokens.specs.Tokens.{Token, token_bytes}
 use Rattle.tokens.proofs.Counts.{bytes_count}
 use Rattle.order.specs.declared.Pair.{Pair}
+use Rattle.std.specs.Prelude.{Result}
 use Rattle.order.specs.declared.Verdict.{Verdict}
 use Rattle.order.specs.Breaks.{token_count, name_at}
 use Rattle.order.specs.Verdicts.{ordered, verdict_says, order_says}
@@ -45,7 +46,7 @@ small-order ts ps h = go (order_says ts ps) refl
     go (refuses n d) e = no-detail n d (order-refuses ts ps n d e)
 
 -- the same of a verdict that is the order's
-pub says-order : (ts : List ℕ) (ps : List Pair) {r : Verdict} → r ≡ ordered ts ps → verdict_says r ≡ order_says ts ps
+pub says-order : (ts : List ℕ) (ps : List Pair) {r : Result Verdict Refusal} → r ≡ ordered ts ps → verdict_says r ≡ order_says ts ps
 unfolding order_says
 says-order ts ps e = ap verdict_says e
 

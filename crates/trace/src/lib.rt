@@ -2,7 +2,7 @@
 #![tactic(auto)]
 
 ghost use Rattle.std.specs.Prelude.{◌≤◌, ◌≡◌, true, length};
-ghost use Rattle.table.specs.Answers.{says, number, is_refused};
+ghost use Rattle.table.specs.Answers.{says, refusal, number, is_refused};
 ghost use Rattle.table.specs.Checked.{checked};
 ghost use Rattle.reading.specs.Calls.{spell_says, spell_leaves};
 ghost use Rattle.ranking.specs.Answers.{compare_says};
@@ -21,10 +21,10 @@ ghost use Rattle.reorder.specs.Exchanges.{Apart};
 ghost use Rattle.apart.specs.Calls.{apart_says};
 ghost use Rattle.trace.specs.Numbers.{Small, Encodable, SmallPage};
 
-use live::{Heard, LiveLine};
+use live::{Facts, LiveLine};
 use order::{Pair, Verdict};
-use page::Outcome;
-use table::Answer;
+use page::PageRefusal;
+use table::Refusal;
 
 // What a refusal's number stands for in the answer: 2^32. Who is refused by a page: 2^56 for the line rules, twice that for the page rules, three times
 // that for one line.
@@ -36,58 +36,62 @@ const PAGE_RULES: u64 = 144115188075855872;
 
 const ONE_LINE: u64 = 216172782113783808;
 
-// The result, or the refusal's number and its detail.
-fn number_of(answer: Answer) -> u64
+// A refusal: its number and its detail.
+fn refusal_number(why: Refusal) -> u64
+    requires { Small (refusal why) }
+    ensures { result ≡ number (refusal why) }
+{
+    (why.number() as u64) * REFUSAL + why.detail() as u64
+}
+
+// The result, or the refusal.
+fn number_of(answer: Result<usize, Refusal>) -> u64
     requires { Small (says answer) }
     ensures { result ≡ number (says answer) }
 {
     match answer {
-        Answer::Done(n) => n as u64,
-        Answer::Refused(why) => {
-            let numbers = table::numbers_of(why);
-            (numbers.number as u64) * REFUSAL + numbers.detail as u64
-        }
+        Ok(n) => n as u64,
+        Err(why) => refusal_number(why),
     }
 }
 
 // The same of a verdict.
-fn verdict_number(verdict: Verdict) -> u64
+fn verdict_number(verdict: Result<Verdict, Refusal>) -> u64
     requires { Encodable (verdict_says verdict) }
     ensures { result ≡ number (verdict_says verdict) }
 {
     match verdict {
-        Verdict::Kept(n) => n as u64,
-        Verdict::Broken(i) => i as u64,
-        Verdict::Refused(why) => number_of(Answer::Refused(why)),
+        Ok(Verdict::Kept(n)) => n as u64,
+        Ok(Verdict::Broken(i)) => i as u64,
+        Err(why) => refusal_number(why),
     }
 }
 
 // The same of the answer of a call on a live line: 1 where the line has a reading, and 2 more where some bytes behind it would make it a line that
 // has one.
-fn heard_number(heard: Heard) -> u64
+fn heard_number(heard: Result<Facts, Refusal>) -> u64
     requires { Small (heard_says heard) }
     ensures { result ≡ number (heard_says heard) }
 {
     match heard {
-        Heard::Known(facts) => (facts.reads as u64) + 2 * (facts.extends as u64),
-        Heard::Refused(why) => number_of(Answer::Refused(why)),
+        Ok(facts) => (facts.reads as u64) + 2 * (facts.extends as u64),
+        Err(why) => refusal_number(why),
     }
 }
 
 // The same of a page's answer, and who is refused.
-fn outcome_number(outcome: Outcome) -> u64
+fn outcome_number(outcome: Result<usize, PageRefusal>) -> u64
     requires { SmallPage (outcome_says outcome) }
     ensures { result ≡ page_number (outcome_says outcome) }
 {
     match outcome {
-        Outcome::Done(n) => n as u64,
-        Outcome::LineRules(why) => LINE_RULES + number_of(Answer::Refused(why)),
-        Outcome::PageRules(why) => PAGE_RULES + number_of(Answer::Refused(why)),
-        Outcome::OneLine(why, line) => {
-            let numbers = table::numbers_of(why);
-            ONE_LINE + (numbers.number as u64) * REFUSAL + line as u64
+        Ok(n) => n as u64,
+        Err(PageRefusal::LineRules(why)) => LINE_RULES + refusal_number(why),
+        Err(PageRefusal::PageRules(why)) => PAGE_RULES + refusal_number(why),
+        Err(PageRefusal::OneLine(why, line)) => {
+            ONE_LINE + (why.number() as u64) * REFUSAL + line as u64
         }
-        Outcome::WholePage(why) => number_of(Answer::Refused(why)),
+        Err(PageRefusal::WholePage(why)) => refusal_number(why),
     }
 }
 

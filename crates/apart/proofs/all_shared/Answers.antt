@@ -12,4 +12,4 @@ pub loop-c-preserved : goal.loop-c-preserved
 loop-c-preserved c = shared-next _ _ _ _ _ c.loop-c.invariant c.shared_bits-shared.ensures
 
 pub returns : goal.returns
-returns c = c.loop-c.invariant
+returns c = let e : c.loop-c.c ≡ 256 = omega (arith, c.loop-c.auto.c-end, c.loop-c-test.false) in rw e at c.loop-c.invariant

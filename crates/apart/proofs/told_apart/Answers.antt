@@ -2,8 +2,8 @@
 use Rattle.apart.proofs.Sharing.{told-empty, told-edges}
 use Rattle.apart.proofs.told_apart.Goals as goal
 
-pub returns-then-shared-eq0 : goal.returns-then-shared-eq0
-returns-then-shared-eq0 c = told-edges c.args.shared c.if-shared-eq0.true
+pub returns-then-shared-ne0 : goal.returns-then-shared-ne0
+returns-then-shared-ne0 c = told-empty c.args.shared c.if-shared-ne0.true
 
-pub returns-else-shared-eq0 : goal.returns-else-shared-eq0
-returns-else-shared-eq0 c = told-empty c.args.shared c.if-shared-eq0.false
+pub returns : goal.returns
+returns c = told-edges c.args.shared c.if-shared-ne0.false
