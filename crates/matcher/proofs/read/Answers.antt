@@ -51,7 +51,7 @@ returns-then-not-may_spell c =
 
 pub fill-requires : goal.fill-requires
 fill-requires c =
-    record { line_len_bound = c.if-n-gt255.false; line_in_bounds = omega (arith, rw c.count-m.ensures.count at c.area_size-size.ensures, c.if-work-size.false) }
+    record { short = c.if-n-gt255.false; room = omega (arith, rw c.count-m.ensures.count at c.area_size-size.ensures, c.if-work-size.false) }
 
 pub tell-requires : goal.tell-requires
 tell-requires c =

@@ -1,6 +1,5 @@
 -- `matcher::write_reading` meets its contract: one walk writes where the largest reading has room; otherwise what a first walk counts, a second writes.
 -- Assumes nothing.
-use native.Mathlib.Omega.{arith}
 use Rattle.matcher.proofs.Answering.{sizes-small, most-held, write-given, answer-done, count_given, answer-buffer, counted-held, answer-counted}
 use Rattle.matcher.proofs.write_reading.Goals as goal
 
