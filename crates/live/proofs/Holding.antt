@@ -9,10 +9,9 @@ use mathlib.Core.List.{List, [], ◌∷◌, ◌++◌}
 use lib.ListN.{length, get_or, take, drop, set, replicate, length-append}
 use lib.Seq.{length-take-le, take_all, take-suc, append_snoc, take-append_seam, set-append_seam}
 use Rattle.table.specs.declared.Refusal.{Refusal}
-use Rattle.table.specs.declared.Answer.{Answer}
-use Rattle.table.specs.declared.Answer.TheVariants.{Done, Refused}
+use Rattle.std.specs.Prelude.{Result, Ok, Err}
 use Rattle.table.specs.Records.{count}
-use Rattle.table.specs.Answers.{Said, gives, refuses, refusal, says}
+use Rattle.table.specs.Answers.{Said, gives, refuses, refusal, rules_say}
 use Rattle.table.proofs.Passing.{count-bound}
 use Rattle.reading.specs.Calls.{if_start}
 use Rattle.reading.proofs.Admission.{Admitted, start_gives, refusal-numbers}
@@ -106,18 +105,18 @@ module _ (t : List ℕ) (k : ℕ) where
   fresh-refused n d e = ap (λ (x : Said). made_by x t k) e
 
   -- the same by the answer of `admit`
-  module _ (r : Answer) (e : says r ≡ if_start t k (gives (count t))) where
-    pub new-says : says r ≡ new_says t k
+  module _ (r : Result (List ℕ) Refusal) (e : rules_say r ≡ if_start t k (gives (count t))) where
+    pub new-says : rules_say r ≡ new_says t k
     unfolding new_says
     new-says = e
 
-    pub new-accepted : (m : ℕ) → r ≡ Done m → new_leaves t k ≡ holding t k []
-    new-accepted m f = fresh-accepted m (sym new-says ∙ ap says f)
+    pub new-accepted : (x : List ℕ) → r ≡ Ok x → new_leaves t k ≡ holding t k []
+    new-accepted x f = fresh-accepted (count x) (sym new-says ∙ ap rules_say f)
 
-    pub new-refused : (why : Refusal) → r ≡ Refused why → new_leaves t k ≡ refused_line
+    pub new-refused : (why : Refusal) → r ≡ Err why → new_leaves t k ≡ refused_line
     new-refused why f =
         let x : (n : ℕ) × (d : ℕ) × (refusal why ≡ refuses n d) = refusal-numbers why in
-        fresh-refused x.0 x.1 (sym new-says ∙ ap says f ∙ x.2)
+        fresh-refused x.0 x.1 (sym new-says ∙ ap rules_say f ∙ x.2)
 
   -- the table as it was copied, into an array of zeros
   pub copied-line :

@@ -6,6 +6,5 @@ pub mod OneCall
 pub mod Runs
 pub mod Hold
 -- What only the functions inside need.
-mod Sizes
 mod Answering
 mod Finding

@@ -1,21 +1,20 @@
 -- The tests in front of an answer: each lets every answer on, or gives one refusal whatever the answer. For a live line they are 1 to 6, 9 and 7.
 -- Assumes nothing.
-use Prim.Native.Nat.{ℕ, ◌≤◌, ◌<◌}
+use Prim.Native.Nat.{ℕ, ◌≤◌}
 use native.Mathlib.Omega.{arith}
-use borrow.Author.Tests.{lt-ltb, le-ltb, ltb-false}
+use borrow.Author.Tests.{le-ltb, ltb-false}
 use mathlib.Core.Path.{◌≡◌, refl, sym, ◌∙◌, ap}
 use mathlib.Core.Bool.{Bool, true, false, not}
 use mathlib.Core.List.{List}
 use lib.Dec.{ltb}
 use lib.ListN.{take}
 use Rattle.table.specs.declared.Refusal.{Refusal}
-use Rattle.table.specs.declared.Answer.{Answer}
-use Rattle.table.specs.declared.Answer.TheVariants.{Done, Refused}
+use Rattle.std.specs.Prelude.{Result, Ok, Err}
 use Rattle.table.specs.Records.{count}
-use Rattle.table.specs.Answers.{Said, gives, refuses, refusal, says}
+use Rattle.table.specs.Answers.{Said, gives, refuses, refusal, rules_say}
 use Rattle.table.specs.Checked.{or_else, checked}
 use Rattle.reading.specs.Calls.{if_passed, if_start}
-use Rattle.reading.proofs.Admission.{Admitted, or-gives, start_gives, refusal-numbers, not-admitted}
+use Rattle.reading.proofs.Admission.{Admitted, or-gives, start_gives, refusal-numbers}
 use Rattle.live.specs.Calls.{if_held}
 
 -- what a test makes of every answer
@@ -61,10 +60,6 @@ pub record Ruled (table : List ℕ) (size start n : ℕ) : Type 0 where
   pub admitted : Admitted (take size table) start
   pub count_inside : n ≤ 255
 
--- with another number of bytes
-pub ruled-count : {table : List ℕ} {size start n : ℕ} (m : ℕ) → Ruled table size start n → m ≤ 255 → Ruled table size start m
-ruled-count m r l = record { size_inside = r.size_inside; admitted = r.admitted; count_inside = l }
-
 pub ruled-on : (table : List ℕ) (size start n : ℕ) → Ruled table size start n → (said : Said) → if_held table size start n said ≡ said
 ruled-on table size start n r said =
     rw (le-ltb 1020 size r.size_inside) (r.admitted.said_on _ ∙ rw (le-ltb 255 n r.count_inside))
@@ -77,30 +72,13 @@ held_gives table size start n said m e =
     let b = or-gives (ltb 255 n) 7 0 said m (sym (admitted.said_on rest) ∙ a.1) in
     record { size_inside = ltb-false 1020 size a.0; admitted = admitted; count_inside = ltb-false 255 n b.0 }
 
--- the same of the answer that `judge` hands over
-module _ (table : List ℕ) (size start n m : ℕ) (r : Answer) (e : says r ≡ if_held table size start n (gives m)) where
-  pub judged : (i : ℕ) → r ≡ Done i → Ruled table size start n
-  judged i f = held_gives table size start n (gives m) i (sym e ∙ ap says f)
+-- the same of the answer that `rules` hands over
+module _ (table : List ℕ) (size start n m : ℕ) (r : Result (List ℕ) Refusal) (e : rules_say r ≡ if_held table size start n (gives m)) where
+  pub judged : (x : List ℕ) → r ≡ Ok x → Ruled table size start n
+  judged x f = held_gives table size start n (gives m) (count x) (sym e ∙ ap rules_say f)
 
-  pub not-judged : (why : Refusal) → r ≡ Refused why → (said : Said) → refusal why ≡ if_held table size start n said
+  pub not-judged : (why : Refusal) → r ≡ Err why → (said : Said) → refusal why ≡ if_held table size start n said
   not-judged why f said =
       let x : (n : ℕ) × (d : ℕ) × (refusal why ≡ refuses n d) = refusal-numbers why in
       x.2
-      ∙ sym (gate-refuses (if_held table size start n) (gate-held table size start n) m x.0 x.1 (sym e ∙ ap says f ∙ x.2) said)
-
--- the ways out of `judge`: 1 of the size; 1 to 6, and 9, by the answer of `admit`; and 7
-pub judge-size : (table : List ℕ) (size start n : ℕ) (said : Said) → 1020 < size → refuses 1 0 ≡ if_held table size start n said
-judge-size table size start n said l = rw (lt-ltb 1020 size l)
-
-module _ (table : List ℕ) (size start n : ℕ) (l : size ≤ 1020) where
-  pub judge-table :
-      (r : Answer) (why : Refusal) → says r ≡ if_start (take size table) start (gives (count (take size table))) → r ≡ Refused why
-      → (said : Said) → refusal why ≡ if_held table size start n said
-  judge-table r why e f said =
-      not-admitted (take size table) start r why e f (or_else (ltb 255 n) (refuses 7 0) said) ∙ rw (le-ltb 1020 size l)
-
-  pub judge-line : Admitted (take size table) start → 255 < n → (said : Said) → refuses 7 0 ≡ if_held table size start n said
-  judge-line a h said = rw (le-ltb 1020 size l) (sym (a.said_on _ ∙ rw (lt-ltb 255 n h)))
-
-  pub judge-done : Admitted (take size table) start → n ≤ 255 → (said : Said) → said ≡ if_held table size start n said
-  judge-done a h said = sym (ruled-on table size start n (record { size_inside = l; admitted = a; count_inside = h }) said)
+      ∙ sym (gate-refuses (if_held table size start n) (gate-held table size start n) m x.0 x.1 (sym e ∙ ap rules_say f ∙ x.2) said)

@@ -1,18 +1,18 @@
 -- What the calls on a live line say and leave (document 02, request 7): "Turned away: 1 to 6, 9 and 7 (over 255 bytes) for a live line filled by
 -- hand; then 7 for Add at 255 bytes; 19 for Take back on an empty line; last 10."
 -- Assumes nothing.
-use Rattle.std.specs.Prelude.{ℕ, ◌+◌, Bool, cond, List, [], leb, ltb, eqb, length, take}
+use Rattle.std.specs.Prelude.{ℕ, ◌+◌, Bool, cond, List, [], Result, Ok, Err, leb, ltb, eqb, length, take}
 use Rattle.posix.specs.Spells.{spells}
 use Rattle.posix.specs.Extends.{extends}
 use Rattle.table.specs.Records.{count}
+use Rattle.table.specs.declared.Refusal.{Refusal}
 use Rattle.table.specs.Answers.{Said, gives, refuses, refusal}
 use Rattle.table.specs.Checked.{or_else}
 use Rattle.table.specs.Expression.{exp_of}
 use Rattle.reading.specs.Calls.{if_start}
 use Rattle.matcher.specs.Calls.{work_size}
 use Rattle.live.specs.declared.LiveLine.{LiveLine}
-use Rattle.live.specs.declared.Heard.{Heard}
-use Rattle.live.specs.declared.Heard.TheVariants.{Known, Refused}
+use Rattle.live.specs.declared.Facts.{Facts}
 use Rattle.live.specs.Lines.{table_of, bytes_of, holding, refused_line, lengthened, shortened}
 
 -- the two facts in one number: 1 where the line has a reading, and 2 where some bytes behind it would make it a line that has one
@@ -20,9 +20,9 @@ abbrev pub facts_number : Bool → Bool → ℕ
 facts_number reads extends = cond reads 1 0 + cond extends 2 0
 
 -- an answer in the paper's numbers
-abbrev pub heard_says : Heard → Said
-heard_says (Known f) = gives (facts_number f.reads f.extends)
-heard_says (Refused why) = refusal why
+abbrev pub heard_says : Result Facts Refusal → Said
+heard_says (Ok f) = gives (facts_number f.reads f.extends)
+heard_says (Err why) = refusal why
 
 -- the constructor: 1 to 6, 9, or the table's record count; and the line it makes
 unfoldable pub new_says : List ℕ → ℕ → Said

@@ -24,6 +24,10 @@ holding t k s = record { table = padded 1020 t; size = length t; start = k; byte
 abbrev pub refused_line : LiveLine
 refused_line = holding (record_bytes 0 0 0 0) 0 []
 
+-- the live line with other bytes
+abbrev pub with_bytes : LiveLine → List ℕ → ℕ → LiveLine
+with_bytes h bytes n = record { table = h.table; size = h.size; start = h.start; bytes = bytes; count = n }
+
 -- the live line with a byte more: "Add puts a byte at its end"
 abbrev pub lengthened : LiveLine → ℕ → LiveLine
 lengthened h c =

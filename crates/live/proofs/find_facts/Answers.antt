@@ -1,17 +1,23 @@
--- `live::find_facts` meets its contract: a line that has a reading, and one for which the search is made.
+-- `live::find_facts` meets its contract: 10, a line that has a reading, and one for which the search is made.
 -- Assumes nothing.
-use native.Mathlib.Omega.{arith}
-use Rattle.live.proofs.Finding.{line_row, line_reads, line-not, line_known}
+use mathlib.Core.Path.{refl}
+use Rattle.live.proofs.Finding.{facts-refused, facts-read, facts-searched}
+use Rattle.live.proofs.Answering.{not-refused}
 use Rattle.live.proofs.find_facts.Goals as goal
 
-pub tell-requires : goal.tell-requires
-tell-requires c = record { inside = line_row c.requires.passes c.requires.start_bound c.requires.line_len_bound c.fill.ensures.told (omega (arith, c.requires.line_in_bounds, c.fill.ensures.length)); e_le_d = omega arith }
+pub returns-then-work-area_size : goal.returns-then-work-area_size
+returns-then-work-area_size c = record { answer = facts-refused c.args.rules.now c.args.start c.args.line.now _ c.count-m.ensures.count c.area_size.ensures c.if-work-area_size.true; work = λ h. refl }
 
 pub returns-then-tell : goal.returns-then-tell
-returns-then-tell c = let x = line_reads c.requires.passes c.requires.start_bound c.requires.line_len_bound c.fill.ensures.told (omega (arith, c.requires.line_in_bounds, c.fill.ensures.length)) c.tell.ensures c.if-tell.true in record { reads = x.0; extends = x.1 }
-
-pub can_extend-extends-requires : goal.can_extend-extends-requires
-can_extend-extends-requires c = record { known = line_known c.requires.passes c.requires.start_bound c.requires.line_len_bound c.fill.ensures.told (omega (arith, c.requires.line_in_bounds, c.fill.ensures.length)); start_bound = c.requires.start_bound }
+returns-then-tell c =
+    let e =
+    facts-read c.args.rules.now c.args.start c.args.line.now _ c.count-m.ensures.count c.area_size.ensures c.if-work-area_size.false c.requires.start_bound
+    c.fill.ensures.told c.tell.ensures c.if-tell.true in
+    record { answer = e; work = not-refused e }
 
 pub returns : goal.returns
-returns c = record { reads = line-not c.requires.passes c.requires.start_bound c.requires.line_len_bound c.fill.ensures.told (omega (arith, c.requires.line_in_bounds, c.fill.ensures.length)) c.tell.ensures c.if-tell.false; extends = c.can_extend-extends.ensures }
+returns c =
+    let e =
+    facts-searched c.args.rules.now c.args.start c.args.line.now _ c.count-m.ensures.count c.area_size.ensures c.if-work-area_size.false c.requires.start_bound
+    c.fill.ensures.told c.tell.ensures c.if-tell.false c.can_extend-extends.ensures in
+    record { answer = e; work = not-refused e }
