@@ -15,7 +15,7 @@ use Rattle.table.specs.Faults.{Passes}
 use Rattle.table.specs.Letters.{LetterKind, byte_set}
 use Rattle.table.specs.Expression.{exp_of}
 use Rattle.table.proofs.Laws.{exp-nothing, exp-empty, exp-letter, exp-or, exp-seq, exp-star}
-use Rattle.table.proofs.Passing.{a-below, b-below, star-a-below, kind-nothing, letter_at}
+use Rattle.table.proofs.Passing.{a-below, b-below, star-a-below, letter_at}
 use Rattle.marks.specs.Marks.{marked, MarkedAll, MarkedToo}
 use Rattle.marks.proofs.Laws.{unmarked-bit}
 use Rattle.rows.proofs.Cuts.{below_or}
@@ -88,15 +88,14 @@ some_more t k some some' p f q =
         (m.only k x))
         ∙ sym f
 
--- what was found holds of fewer records too
-pub some-fewer : {t : List ℕ} {k : ℕ} {some : List ℕ} (j : ℕ) → j ≤ k → SomeFound t k some → SomeFound t j some
-some-fewer j l p = record { size = p.size; found = λ i h. p.found i (omega arith) }
-
 -- whether record k spells some line, by its bytes as they are read
 module _
     (t : List ℕ) (p : Passes t) (k : ℕ) (l : k < count t) {kind a b : ℕ} (e : kind ≡ kind_at t k) (ea : a ≡ a_at t k) (eb : b ≡ b_at t k)
     {some : List ℕ} (f : SomeFound t k some)
   where
+    pub some-nothing : kind ≡ 0 → false ≡ spells_some t k
+    some-nothing z = rw (exp-nothing t k (sym e ∙ z))
+
     pub some-unit : (kind ≡ 1) ⊎ (kind ≡ 5) → true ≡ spells_some t k
     some-unit (inl z) = rw (exp-empty t k (sym e ∙ z))
     some-unit (inr z) = rw (exp-star t k (sym e ∙ z) (star-a-below t p k l (sym e ∙ z)))
@@ -131,10 +130,6 @@ module _
 
     pub some-seq-none : kind ≡ 4 → marked some a ≡ false → false ≡ spells_some t k
     some-seq-none z m = ap (λ (x : Bool). x && marked some b) (sym m) ∙ some-seq z
-
-    pub some-rest :
-        ¬ ((kind ≡ 1) ⊎ (kind ≡ 5)) → ¬ (LetterKind kind) → ¬ (kind ≡ 3) → ¬ (kind ≡ 4) → false ≡ spells_some t k
-    some-rest n1 n2 n3 n4 = rw (exp-nothing t k (kind-nothing t p k l e (λ z. n1 (inl z)) n2 n3 n4 (λ z. n1 (inr z))))
 
 -- the start: the start record is to be looked at from the line's first byte on
 pub search-starts :
@@ -195,11 +190,3 @@ module _ {t s : List ℕ} {start k : ℕ} {ws : List ℕ} (p : Reaching t s star
 -- a search at record k is one at any number that is the same
 pub search-at : {t s : List ℕ} {start k : ℕ} {ws : List ℕ} (j : ℕ) → k ≡ j → Reaching t s start k ws → Reaching t s start j ws
 search-at {t} {s} {start} {k} {ws} j e p = subst (λ (i : ℕ). Reaching t s start i ws) e p
-
--- nothing is found at any record
-pub search-ends : {t s : List ℕ} {start : ℕ} {ws : List ℕ} → Reaching t s start 0 ws → false ≡ extends (exp_of t start) s
-search-ends {t} {s} {start} {ws} p =
-    sym (not-true (extends (exp_of t start) s) (λ (e : extends (exp_of t start) s ≡ true). none (p.complete e)))
-  where
-    none : (j : ℕ) × (j < 0) × Alive t s ws j → ⊥
-    none (j, l, x) = omega arith

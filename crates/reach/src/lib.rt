@@ -13,32 +13,24 @@ ghost use Rattle.marks.specs.Marks.{marked, MarkedAll, MarkedToo};
 ghost use Rattle.rows.specs.Rows.{Inside};
 ghost use Rattle.reach.specs.Reaching.{place, If, spells_some, SomeFound, Known, RestOf, RestOfRow, Visiting, Visited, Reaching};
 
+use table::{Kind, Rules};
+
 // Whether record k spells some line at all, by the records below it that do.
-fn spells_some(table: &[u8], k: usize, some: &[u64]) -> bool
-    requires passes { Passes table.now }
-    requires k_bound { k < count table.now }
-    requires some_found { SomeFound table.now k some.now }
-    ensures { result ≡ spells_some table.now k }
+fn spells_some(table: &Rules, k: usize, some: &[u64; 4]) -> bool
+    requires inside { k < count table.now }
+    requires found { SomeFound table.now k some.now }
+    ensures value { result ≡ spells_some table.now k }
+    ensures passes { Passes table.now }
 {
-    let kind = table::kind_at(table, k);
-    let a = table::a_at(table, k);
-    let b = table::b_at(table, k);
+    let kind = table.kind_at(k);
+    let a = table.a_at(k);
+    let b = table.b_at(k);
     match kind {
-        table::EMPTY | table::STAR => true,
-        table::RANGE | table::OTHER => table::letter_holds_some(kind, a, b),
-        table::OR => {
-            if marks::is_marked(some, a as usize) {
-                return true;
-            }
-            marks::is_marked(some, b as usize)
-        }
-        table::SEQ => {
-            if marks::is_marked(some, a as usize) {
-                return marks::is_marked(some, b as usize);
-            }
-            false
-        }
-        _ => false,
+        Kind::Nothing => false,
+        Kind::Empty | Kind::Star => true,
+        Kind::Range | Kind::Other => table::letter_holds_some(kind.number(), a, b),
+        Kind::Or => marks::is_marked(some, a as usize) || marks::is_marked(some, b as usize),
+        Kind::Seq => marks::is_marked(some, a as usize) && marks::is_marked(some, b as usize),
     }
 }
 
@@ -49,42 +41,41 @@ fn mark_if(marks: &mut [u64], i: usize, wanted: bool)
 {
     if wanted {
         marks::mark(marks, i);
-        return;
     }
 }
 
 // The records below `end` that spell some line at all.
-fn find_some(table: &[u8], end: usize) -> [u64; 4]
-    requires passes { Passes table.now }
-    requires end_bound { end ≤ count table.now }
+fn find_some(table: &Rules, end: usize) -> [u64; 4]
+    requires { end ≤ count table.now }
     ensures { SomeFound table.now end result }
 {
     let mut some = [0; 4];
-    let mut k = 0;
-    while k < end {
+    for k in 0..end {
         let spells = spells_some(table, k, &some);
         mark_if(&mut some, k, spells);
-        k += 1;
     }
     some
 }
 
 // Where the row has a mark d, marks record `to` at each rest of the last d bytes behind a part that record `of` spells.
-fn mark_rests(work: &[u8], m: usize, row: &[u64], of: usize, to: usize, d: usize, marks: &mut [u64])
+fn mark_rests(
+    work: &[u8],
+    m: usize,
+    row: &[u64; 4],
+    of: usize,
+    to: usize,
+    d: usize,
+    marks: &mut [u64; 1024],
+)
     requires inside { Inside m d of work.now }
-    requires row_len { length row.now ≡ 4 }
-    requires to_bound { to < 256 }
-    requires marks_len { length marks.old ≡ 1024 }
+    requires number { to < 256 }
     ensures { MarkedAll (If (marked row.now d) (RestOf m work.now of to d)) marks.old marks.new }
 {
-    if !marks::is_marked(row, d) {
-        return;
-    }
-    let mut e = 0;
-    while e <= d {
-        let told = rows::tell(work, m, of, d, e);
-        mark_if(marks, 256 * to + (d - e), told);
-        e += 1;
+    if marks::is_marked(row, d) {
+        for e in 0..=d {
+            let told = rows::tell(work, m, of, d, e);
+            mark_if(marks, 256 * to + (d - e), told);
+        }
     }
 }
 
@@ -93,15 +84,13 @@ fn mark_row_rests(
     work: &[u8],
     m: usize,
     n: usize,
-    row: &[u64],
+    row: &[u64; 4],
     of: usize,
     to: usize,
-    marks: &mut [u64],
+    marks: &mut [u64; 1024],
 )
     requires inside { Inside m n of work.now }
-    requires row_len { length row.now ≡ 4 }
-    requires to_bound { to < 256 }
-    requires marks_len { length marks.old ≡ 1024 }
+    requires number { to < 256 }
     ensures { MarkedAll (RestOfRow m work.now row.now n of to) marks.old marks.new }
 {
     let mut d = marks::next_marked(row, 0, n + 1);
@@ -113,20 +102,20 @@ fn mark_row_rests(
 
 // A letter: found where no byte of the line is left and it holds some byte, or where one is left and it holds that.
 fn visit_letter(
-    table: &[u8],
+    table: &Rules,
     k: usize,
     line: &[u8],
     work: &[u8],
-    row: &[u64],
-    marks: &[u64],
+    row: &[u64; 4],
+    marks: &[u64; 1024],
 ) -> bool
     requires visiting { Visiting table.now line.now work.now k marks.now row.now }
-    requires k_value { is_letter table.now k ≡ true }
+    requires letter { is_letter table.now k ≡ true }
     ensures { Visited table.now line.now k marks.now marks.now result }
 {
-    let kind = table::kind_at(table, k);
-    let a = table::a_at(table, k);
-    let b = table::b_at(table, k);
+    let kind = table.kind_at(k).number();
+    let a = table.a_at(k);
+    let b = table.b_at(k);
     let at_end = marks::is_marked(row, 0) & table::letter_holds_some(kind, a, b);
     let n = line.len();
     if n == 0 {
@@ -137,19 +126,19 @@ fn visit_letter(
 
 // An Or: both children are looked at from where it is.
 fn visit_or(
-    table: &[u8],
+    table: &Rules,
     k: usize,
     line: &[u8],
     work: &[u8],
-    row: &[u64],
-    marks: &mut [u64],
+    row: &[u64; 4],
+    marks: &mut [u64; 1024],
 ) -> bool
     requires visiting { Visiting table.now line.now work.now k marks.old row.now }
-    requires k_value { kind_at table.now k ≡ 3 }
+    requires kind { kind_at table.now k ≡ 3 }
     ensures { Visited table.now line.now k marks.old marks.new result }
 {
-    let a = table::a_at(table, k) as usize;
-    let b = table::b_at(table, k) as usize;
+    let a = table.a_at(k) as usize;
+    let b = table.b_at(k) as usize;
     marks::join_marks(marks, 4 * a, row);
     marks::join_marks(marks, 4 * b, row);
     false
@@ -158,91 +147,94 @@ fn visit_or(
 // A Seq: the second child is looked at behind each part that the first spells, and the first from where the Seq is, if the second spells some
 // line at all.
 fn visit_seq(
-    table: &[u8],
+    table: &Rules,
     k: usize,
     line: &[u8],
     work: &[u8],
-    some: &[u64],
-    row: &[u64],
-    marks: &mut [u64],
+    some: &[u64; 4],
+    row: &[u64; 4],
+    marks: &mut [u64; 1024],
 ) -> bool
     requires visiting { Visiting table.now line.now work.now k marks.old row.now }
-    requires some_found { SomeFound table.now k some.now }
-    requires k_value { kind_at table.now k ≡ 4 }
+    requires found { SomeFound table.now k some.now }
+    requires kind { kind_at table.now k ≡ 4 }
     ensures { Visited table.now line.now k marks.old marks.new result }
 {
-    let m = table.len() / 4;
-    let a = table::a_at(table, k) as usize;
-    let b = table::b_at(table, k) as usize;
+    let m = table.count();
+    let a = table.a_at(k) as usize;
+    let b = table.b_at(k) as usize;
     mark_row_rests(work, m, line.len(), row, a, b, marks);
     if marks::is_marked(some, b) {
         marks::join_marks(marks, 4 * a, row);
-        return false;
     }
     false
 }
 
 // A Star: found where no byte of the line is left; otherwise its child is looked at behind each part that the Star spells.
 fn visit_star(
-    table: &[u8],
+    table: &Rules,
     k: usize,
     line: &[u8],
     work: &[u8],
-    row: &[u64],
-    marks: &mut [u64],
+    row: &[u64; 4],
+    marks: &mut [u64; 1024],
 ) -> bool
     requires visiting { Visiting table.now line.now work.now k marks.old row.now }
-    requires k_value { kind_at table.now k ≡ 5 }
+    requires kind { kind_at table.now k ≡ 5 }
     ensures { Visited table.now line.now k marks.old marks.new result }
 {
     if marks::is_marked(row, 0) {
         return true;
     }
-    let m = table.len() / 4;
-    let a = table::a_at(table, k) as usize;
+    let m = table.count();
+    let a = table.a_at(k) as usize;
     mark_row_rests(work, m, line.len(), row, k, a, marks);
     false
 }
 
 // Looks at record k: whether it is found there that the line can be extended; otherwise its marks are handed on to its children.
-fn visit(table: &[u8], k: usize, line: &[u8], work: &[u8], some: &[u64], marks: &mut [u64]) -> bool
+fn visit(
+    table: &Rules,
+    k: usize,
+    line: &[u8],
+    work: &[u8],
+    some: &[u64; 4],
+    marks: &mut [u64; 1024],
+) -> bool
     requires known { Known table.now line.now work.now }
-    requires k_bound { k < count table.now }
-    requires some_found { SomeFound table.now k some.now }
-    requires marks_len { length marks.old ≡ 1024 }
+    requires inside { k < count table.now }
+    requires found { SomeFound table.now k some.now }
     ensures { Visited table.now line.now k marks.old marks.new result }
 {
-    let kind = table::kind_at(table, k);
+    let kind = table.kind_at(k);
     let mut row = [0; 4];
     marks::copy_marks(&mut row, marks, 4 * k);
     match kind {
-        table::EMPTY => marks::is_marked(&row, 0),
-        table::RANGE | table::OTHER => visit_letter(table, k, line, work, &row, marks),
-        table::OR => visit_or(table, k, line, work, &row, marks),
-        table::SEQ => visit_seq(table, k, line, work, some, &row, marks),
-        table::STAR => visit_star(table, k, line, work, &row, marks),
-        _ => false,
+        Kind::Nothing => false,
+        Kind::Empty => marks::is_marked(&row, 0),
+        Kind::Range | Kind::Other => visit_letter(table, k, line, work, &row, marks),
+        Kind::Or => visit_or(table, k, line, work, &row, marks),
+        Kind::Seq => visit_seq(table, k, line, work, some, &row, marks),
+        Kind::Star => visit_star(table, k, line, work, &row, marks),
     }
 }
 
 // Visits the records from the start record down, until it is found that the line can be extended.
 fn search(
-    table: &[u8],
+    table: &Rules,
     start: usize,
     line: &[u8],
     work: &[u8],
-    some: &[u64],
-    marks: &mut [u64],
+    some: &[u64; 4],
+    marks: &mut [u64; 1024],
 ) -> bool
     requires known { Known table.now line.now work.now }
-    requires start_bound { start < count table.now }
-    requires some_found { SomeFound table.now start some.now }
+    requires inside { start < count table.now }
+    requires found { SomeFound table.now start some.now }
     requires reaching { Reaching table.now line.now start (start + 1) marks.old }
     ensures { result ≡ extends (exp_of table.now start) line.now }
 {
-    let mut k = start + 1;
-    while 0 < k {
-        k -= 1;
+    for k in (0..=start).rev() {
         if visit(table, k, line, work, some, marks) {
             return true;
         }
@@ -252,8 +244,8 @@ fn search(
 
 // Marks nothing but the start record at the whole line.
 fn mark_start(start: usize, n: usize) -> [u64; 1024]
-    requires start_bound { start < 256 }
-    requires n_bound { n ≤ 255 }
+    requires number { start < 256 }
+    requires short { n ≤ 255 }
     ensures { MarkedToo (place start n) (replicate 1024 0) result }
 {
     let mut marks = [0; 1024];
@@ -262,9 +254,9 @@ fn mark_start(start: usize, n: usize) -> [u64; 1024]
 }
 
 // Whether some bytes behind the line, none included, make it one that the start record spells.
-pub fn can_extend(table: &[u8], start: usize, line: &[u8], work: &[u8]) -> bool
+pub fn can_extend(table: &Rules, start: usize, line: &[u8], work: &[u8]) -> bool
     requires known { Known table.now line.now work.now }
-    requires start_bound { start < count table.now }
+    requires inside { start < count table.now }
     ensures { result ≡ extends (exp_of table.now start) line.now }
 {
     let some = find_some(table, start);

@@ -21,7 +21,8 @@ use Rattle.matcher.proofs.Rivals.{read-outranks}
 use Rattle.tokens.specs.Tokens.{token_bytes}
 use Rattle.lines.specs.Lines.{lines_of}
 use Rattle.lexer.specs.Lexing.{tokens_of, lex_says}
-use Rattle.page.specs.declared.Outcome.{Outcome}
+use Rattle.std.specs.Prelude.{Result}
+use Rattle.page.specs.declared.PageRefusal.{PageRefusal}
 use Rattle.page.specs.Entries.{Rules}
 use Rattle.page.specs.Outcomes.{Who, the_page, line_rules, page_rules, one_line, PageSaid, names, at_line, outcome_says, who_number, page_number}
 use Rattle.page.specs.Pages.{Sizes, by_parity, if_taken, line_says, lines_say, classes_of, rules_say, page_says, page_leaves, PageTaken}
@@ -128,7 +129,7 @@ page-alone : (x : Said) → page_number (names the_page x) ≡ number x
 page-alone x = omega arith
 
 -- the refusal that an answer tells, and its number
-module _ (o : Outcome) (pre : SmallPage (outcome_says o)) where
+module _ (o : Result ℕ PageRefusal) (pre : SmallPage (outcome_says o)) where
   pub told-small : (who : Who) (said : Said) → outcome_says o ≡ names who said → Small said
   told-small who said e = subst (λ (x : PageSaid). SmallPage x) e pre
 

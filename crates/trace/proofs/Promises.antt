@@ -88,6 +88,7 @@ use Rattle.notation.proofs.Complete.{one-tree}
 use Rattle.notation.proofs.Stopping.{stops-begins, stops-there}
 use Rattle.notation.proofs.Calls.{compile-outside, compile-many, compile-short, compile-writes, compile-gives, compile-table, compile-refused}
 use Rattle.order.specs.declared.Pair.{Pair}
+use Rattle.std.specs.Prelude.{Ok}
 use Rattle.order.specs.declared.Verdict.TheVariants.{Kept, Broken}
 use Rattle.order.specs.Breaks.{token_count, name_at, Breaks, Among, Keeps, FirstToBreak}
 use Rattle.order.specs.Verdicts.{ordered, order_says}
@@ -325,14 +326,14 @@ order-broken = said-broken
 
 -- Request 5: the same of the verdict that order::order answers, which names the case
 pub verdict-kept :
-    (ts : List ℕ) (ps : List Pair) → length ps ≤ 64 → length ts % 3 ≡ 0 → (ordered ts ps ≡ Kept (token_count ts)) ↔ Keeps ts ps
+    (ts : List ℕ) (ps : List Pair) → length ps ≤ 64 → length ts % 3 ≡ 0 → (ordered ts ps ≡ Ok (Kept (token_count ts))) ↔ Keeps ts ps
 verdict-kept = kept-exactly
 
-pub verdict-count : (ts : List ℕ) (ps : List Pair) (n : ℕ) → ordered ts ps ≡ Kept n → n ≡ token_count ts
+pub verdict-count : (ts : List ℕ) (ps : List Pair) (n : ℕ) → ordered ts ps ≡ Ok (Kept n) → n ≡ token_count ts
 verdict-count = kept-count
 
 pub verdict-broken :
-    (ts : List ℕ) (ps : List Pair) (i : ℕ) → length ps ≤ 64 → length ts % 3 ≡ 0 → (ordered ts ps ≡ Broken i) ↔ FirstToBreak ts ps i
+    (ts : List ℕ) (ps : List Pair) (i : ℕ) → length ps ≤ 64 → length ts % 3 ≡ 0 → (ordered ts ps ≡ Ok (Broken i)) ↔ FirstToBreak ts ps i
 verdict-broken = broken-exactly
 
 -- Request 5: "A pair with one name twice is broken by the first token of that name"
