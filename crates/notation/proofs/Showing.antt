@@ -50,12 +50,6 @@ no-marks l r e f =
     let h : (eqb l 0 ≡ true) × (eqb r 0 ≡ true) = and_both _ _ (not-false _ (sym e ∙ f)) in
     (eqb-true l 0 h.0, eqb-true r 0 h.1)
 
-pub some-marks : (l r : ℕ) {b : Bool} → b ≡ not (eqb l 0 && eqb r 0) → b ≡ true → ¬ ((l ≡ 0) × (r ≡ 0))
-some-marks l r e f g =
-    let z : (eqb l 0 && eqb r 0) ≡ false = not-true _ (sym e ∙ f) in
-    let y : true ≡ false = rw (eq-eqb l 0 g.0, eq-eqb r 0 g.1) at z in
-    cc
-
 -- there is a mark, or an item, just where a part is held
 pub mark-none : (k : ℕ) (h : Held) → mark_of k h ≡ 0 → h ≡ none
 mark-none k none e = refl
@@ -83,11 +77,6 @@ untagged-item t e = go (eqb (tag_of t) 0) refl e
 item-tagged : (t : Tree) → ¬ (tag_of t ≡ 0) → item_of (some t) ≡ Tagged
 item-tagged t e = rw (ne_eqb (tag_of t) 0 e)
 
--- the row with no further item
-pub row_same : (h : Held) → row_with h none ≡ h
-row_same none = refl
-row_same (some t) = refl
-
 -- the array of the marks of the open parentheses, and these marks after a store behind them
 pub marked-long : (fs : List Frame) (stack : List Marks) → Marked fs stack → length stack ≡ 4096
 marked-long [] stack m = m
@@ -105,13 +94,6 @@ module _ {fs : List Frame} {l m : Held} {w : Walk} {stack : List Marks} {entry o
 
   pub row-right : {i : Held} → Shows fs l m i w stack entry out → w.marks.row ≡ mark_of (total (outer_parts fs ++ held l)) m
   row-right s = ap (λ (x : Marks). x.row) s.marks_right
-
-  -- nothing to join
-  pub item-stays : {i : Held} → Shows fs l m i w stack entry out → w.item ≡ Absent → Shows fs l (row_with m i) none w stack entry out
-  item-stays {i} s e =
-      let f : i ≡ none = item-none i (sym s.item_right ∙ e) in
-      let g : row_with m i ≡ m = ap (row_with m) f ∙ row_same m in
-      rw g (subst (λ (h : Held). Shows fs l m h w stack entry out) f s)
 
   module _ {t : Tree} (s : Shows fs l m (some t) w stack entry out) where
     -- the last item joins the row

@@ -23,13 +23,6 @@ fit-more w m n h f =
     record { count_fits = omega (arith, f.count_fits); depth_fits = omega (arith, f.depth_fits); item_counted = f.item_counted }
 
 module _ {fs : List Frame} {l m : Held} {w : Walk} {stack : List Marks} {entry out : List ℕ} where
-  -- a word that cannot stand where there is no item
-  pub star-stops : (i : Held) → Shows fs l m i w stack entry out → w.item ≡ Absent → starred fs l m i ≡ stop
-  star-stops i s h = rw (item-none i (sym s.item_right ∙ h))
-
-  pub bar-stops : (i : Held) → Shows fs l m i w stack entry out → w.item ≡ Absent → parted fs l m i ≡ stop
-  bar-stops i s h = rw (item-none i (sym s.item_right ∙ h))
-
   -- a tag where there is no item, or one with a tag
   pub tag-stops : (i : Held) (n : ℕ) → Shows fs l m i w stack entry out → ¬ (w.item ≡ Untagged) → tagged fs l m i n ≡ stop
   tag-stops none n s h = refl
@@ -75,22 +68,6 @@ module _ {fs : List Frame} {l m : Held} {w r : Walk} {stack : List Marks} {entry
   tag-taken none n b s h c mr i d e = let z : Absent ≡ Untagged = sym s.item_right ∙ h in cc
   tag-taken (some t) n b s h c mr i d e =
       rw (eq-eqb (tag_of t) 0 (untagged-item t (sym s.item_right ∙ h)), e) (tagged-shown n b s c mr i d)
-
--- ) with no parenthesis open; and with no item behind a bar or a row
-module _ {w : Walk} {stack : List Marks} {entry out : List ℕ} where
-  pub close-stops : (fs : List Frame) (l m i : Held) → Shows fs l m i w stack entry out → w.depth ≡ 0 → closed_in fs l m i ≡ stop
-  close-stops [] l m i s d = refl
-  close-stops (f ∷ fs) l m i s d = absurd (omega (arith, s.depth_right))
-
-  pub close-missing :
-      (fs : List Frame) (l m i : Held) → Shows fs l m i w stack entry out → w.item ≡ Absent
-      → ¬ ((w.marks.left ≡ 0) × (w.marks.row ≡ 0))
-      → closed_in fs l m i ≡ stop
-  close-missing [] l m i s e h = refl
-  close-missing (frame l' m' ∷ fs) l m (some t) s e h = let z : some t ≡ none = item-none (some t) (sym s.item_right ∙ e) in cc
-  close-missing (frame l' m' ∷ fs) none none none s e h = absurd (h (left-right s, row-right s))
-  close-missing (frame l' m' ∷ fs) none (some t) none s e h = refl
-  close-missing (frame l' m' ∷ fs) (some t) m none s e h = refl
 
 -- ) behind an item, and right behind (
 module _ {w r : Walk} {stack : List Marks} {entry out out' : List ℕ} {depth : ℕ} where

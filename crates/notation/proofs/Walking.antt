@@ -8,7 +8,7 @@ use native.Mathlib.Numerals.{add-one}
 use native.Mathlib.Nat.{add-zero}
 use lib.ListN.{length, get_or, take, drop, length-drop, drop_of_length-le}
 use lib.Seq.{drop-cons, drop-drop, get_or-drop}
-use Rattle.std.specs.Prelude.{Option, Some, None, Result, Err, ok_or}
+use Rattle.std.specs.Prelude.{Option, Some, Result, Err, ok_or}
 use Rattle.notation.specs.declared.Word.{Word}
 use Rattle.notation.specs.declared.Walk.{Walk}
 use Rattle.notation.specs.declared.Marks.{Marks}
@@ -21,19 +21,11 @@ use Rattle.notation.proofs.Words.{later-inside, tag-given, from_place}
 use Rattle.notation.proofs.Complete.{run-skip}
 use Rattle.notation.proofs.Stopping.{ended-none}
 use Rattle.notation.proofs.Laying.{joined-some}
-use Rattle.notation.proofs.Showing.{item-none, begun-shown}
+use Rattle.notation.proofs.Showing.{begun-shown}
 use Rattle.notation.proofs.Taking.{fit-more}
 
 -- the end of the text, with a parenthesis open, with no item, and with one
 module _ {w : Walk} {stack : List Marks} {entry out : List ℕ} where
-  pub ended-open : (fs : List Frame) (l m i : Held) → Shows fs l m i w stack entry out → ¬ (w.depth ≡ 0) → ended (state fs l m i) ≡ stuck 0
-  ended-open [] l m i s h = absurd (h s.depth_right)
-  ended-open (f ∷ fs) l m i s h = refl
-
-  pub ended-missing : (fs : List Frame) (l m i : Held) → Shows fs l m i w stack entry out → w.item ≡ Absent → ended (state fs l m i) ≡ stuck 0
-  ended-missing [] l m i s h = rw (item-none i (sym s.item_right ∙ h))
-  ended-missing (f ∷ fs) l m i s h = refl
-
   pub ended-whole :
       {out' : List ℕ} (fs : List Frame) (l m i : Held) (n : ℕ) → Shows fs l m i w stack entry out → w.depth ≡ 0
       → ¬ (w.item ≡ Absent)
@@ -130,18 +122,8 @@ module _
               shown = t;
               fit = fit-more r (suc at) (at + (1 + later v)) (omega arith) (f at p.fit);
             }
+        -- the end of the text
 
-    -- the word cannot stand there
-    pub reached-stop :
-        (stack' : List Marks) (out' : List ℕ) → Took (step v here) None stack' entry out' → WalkedTo (outcome text) (length text) (Err at) entry out'
-    reached-stop stack' out' t = go (step v here) came t
-      where
-        go : (y : Stepped) → outcome text ≡ and_then y (suc (length rest)) (λ next. run rest (later v) next) → Took y None stack' entry out'
-            → WalkedTo (outcome text) (length text) (Err at) entry out'
-        go stop e t = rw e (ap Err (omega (arith, rest-length)), tt)
-        go (on (state fs l m i)) e t = absurd t
-
--- the end of the text
 pub reached-end :
     {text : List ℕ} {at : ℕ} {w : Walk} {stack : List Marks} {entry out : List ℕ} (x : Option ℕ) (y : Result ℕ ℕ) (out' : List ℕ)
     (p : Reached text at w stack entry out)

@@ -2,7 +2,7 @@
 
 #![tactic(auto)]
 
-ghost use Rattle.std.specs.Prelude.{ℕ, suc, ◌+◌, ◌-◌, ◌%◌, ◌≤◌, ◌<◌, ◌≡◌, List, ◌∷◌, Option, Some, None, IfSome, MatchOption, length, get_or, drop};
+ghost use Rattle.std.specs.Prelude.{ℕ, suc, ◌+◌, ◌-◌, ◌%◌, ◌≤◌, ◌<◌, ◌≡◌, List, ◌∷◌, Option, Some, None, IfSome, length, get_or, drop};
 ghost use Rattle.table.specs.Records.{record_bytes};
 ghost use Rattle.table.specs.Answers.{says};
 ghost use Rattle.table.specs.Kinds.{number_of};

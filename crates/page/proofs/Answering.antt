@@ -8,103 +8,116 @@ use native.Mathlib.Omega.{arith}
 use borrow.Author.Tests.{le-ltb}
 use lib.Dec.{ltb}
 use lib.ListN.{length, take}
+use Rattle.std.specs.Prelude.{Result, Ok, Err}
+use Rattle.std.specs.Result.{IsErrAnd, MatchResult}
+use Rattle.std.proofs.lemmas.Result.{IfOk-at_ok}
 use Rattle.table.specs.declared.Refusal.{Refusal}
-use Rattle.table.specs.declared.Answer.{Answer}
-use Rattle.table.specs.declared.Answer.TheVariants.{Done, Refused}
-use Rattle.table.specs.Answers.{gives, refuses, refusal, says}
+use Rattle.table.specs.Records.{count}
+use Rattle.table.specs.Answers.{Said, gives, refuses, refusal, rules_say as admit_says}
 use Rattle.reading.proofs.Admission.{refusal-numbers}
 use Rattle.matcher.specs.Calls.{read_says, read_leaves}
 use Rattle.lines.specs.Lines.{lines_of}
-use Rattle.page.specs.declared.Lines.{Lines}
-use Rattle.page.specs.declared.Lines.TheVariants as of
+use Rattle.page.specs.declared.PageRefusal.{PageRefusal}
+use Rattle.page.specs.declared.PageRefusal.TheVariants.{LineRules, PageRules, OneLine, WholePage}
 use Rattle.page.specs.Entries.{Rules}
-use Rattle.page.specs.Outcomes.{Who, the_page, line_rules, page_rules, one_line, PageSaid, names, at_line}
-use Rattle.page.specs.Pages.{Sizes, rules_say, page_says, page_leaves, keeps_scratch, PageTaken}
-use Rattle.page.specs.Steps.{LinesRead}
+use Rattle.page.specs.Outcomes.{Who, the_page, line_rules, page_rules, one_line, PageSaid, names, at_line, refusal_says, outcome_says}
+use Rattle.page.specs.Pages.{Sizes, classes_of, rules_say, page_says, page_leaves, keeps_scratch, PageTaken}
+use Rattle.page.specs.Steps.{lines_then, LinesRead}
+use Rattle.page.proofs.Exits.{Exit, Renamed, passed_on, mapped_ok}
 use Rattle.page.proofs.Meaning.{rules-counted, said_all, page-refused, page-said, page-left, page-line-rules, page-page-rules, page-many, page-lines-said}
 
-module _ (l p : Rules) (page : List ℕ) (z : Sizes) (out : List ℕ) where
-  -- what is said and left of the output buffer
-  abbrev Leaves : PageSaid → List ℕ → Type 0
-  Leaves said final = (said ≡ page_says l p page z (length out)) × (final ≡ page_leaves l p page z out)
+-- a refusal has one who is named, a number and a detail
+at-line-numbers : (i : ℕ) (why : Refusal) → (n : ℕ) × (d : ℕ) × (at_line i (refusal why) ≡ refuses n d)
+at-line-numbers i why = let x : (n : ℕ) × (d : ℕ) × (refusal why ≡ refuses n d) = refusal-numbers why in (x.0, i, ap (at_line i) x.2)
 
-  refused : (who : Who) (n d : ℕ) → page_says l p page z (length out) ≡ names who (refuses n d) → Leaves (names who (refuses n d)) out
-  refused who n d e = (sym e, sym (page-refused l p page z out who n d e))
+named : (who : Who) (a : Said) → (n : ℕ) × (d : ℕ) × (a ≡ refuses n d) → (w : Who) × (n : ℕ) × (d : ℕ) × (names who a ≡ names w (refuses n d))
+named who a x = (who, x.0, x.1, ap (names who) x.2)
 
-  pub by-line-rules : (r : Answer) (why : Refusal) → says r ≡ rules_say l → r ≡ Refused why → Leaves (names line_rules (refusal why)) out
-  by-line-rules r why e f =
-      let x : (n : ℕ) × (d : ℕ) × (refusal why ≡ refuses n d) = refusal-numbers why in
-      rw x.2 (refused line_rules x.0 x.1 (page-line-rules l p page z (length out) x.0 x.1 (sym e ∙ ap says f ∙ x.2)))
+refusal-named : (why : PageRefusal) → (who : Who) × (n : ℕ) × (d : ℕ) × (refusal_says why ≡ names who (refuses n d))
+refusal-named (LineRules why) = named line_rules (refusal why) (refusal-numbers why)
+refusal-named (PageRules why) = named page_rules (refusal why) (refusal-numbers why)
+refusal-named (OneLine why i) = named one_line (at_line i (refusal why)) (at-line-numbers i why)
+refusal-named (WholePage why) = named the_page (refusal why) (refusal-numbers why)
 
-  module _ (a : Answer) (i : ℕ) (b : says a ≡ rules_say l) (c : a ≡ Done i) where
-    line-rules-taken : rules_say l ≡ gives i
-    line-rules-taken = sym b ∙ ap says c
+-- rules that are let in
+pub let-in :
+    {s : Said} (Q : Refusal → PageRefusal → Type 0) (a : Result (List ℕ) Refusal) (q : Result (List ℕ) PageRefusal) (x : List ℕ) → admit_says a ≡ s
+    → MatchResult a (λ x. q ≡ Ok x) (λ e. IsErrAnd q (Q e))
+    → q ≡ Ok x
+    → s ≡ gives (count x)
+let-in Q a q x e m f = sym e ∙ ap admit_says (mapped_ok Q a q x m f)
 
-    pub by-page-rules : (r : Answer) (why : Refusal) → says r ≡ rules_say p → r ≡ Refused why → Leaves (names page_rules (refusal why)) out
-    by-page-rules r why e f =
-        let x : (n : ℕ) × (d : ℕ) × (refusal why ≡ refuses n d) = refusal-numbers why in
-        rw x.2
-        (refused page_rules x.0 x.1
-        (page-page-rules l p page z (length out) i x.0 x.1 line-rules-taken (sym e ∙ ap says f ∙ x.2)))
+module _ (l p : Rules) (page : List ℕ) where
+  -- both rules and the number of lines are taken, so that the scratch is free
+  pub scratch-free :
+      {i j n : ℕ} {A : Type 0} → rules_say l ≡ gives i → rules_say p ≡ gives j → n ≡ length (lines_of page) → n ≤ 255 → keeps_scratch l p page ≡ true → A
+  unfolding keeps_scratch
+  scratch-free lines-in page-in e h k =
+      let few : ltb 255 (length (lines_of page)) ≡ false = le-ltb 255 (length (lines_of page)) (omega arith) in
+      let none : keeps_scratch l p page ≡ false = simp (lines-in, page-in, few) in
+      absurd (true≢false (sym k ∙ none))
 
-    module _ (a' : Answer) (j : ℕ) (b' : says a' ≡ rules_say p) (c' : a' ≡ Done j) where
-      page-rules-taken : rules_say p ≡ gives j
-      page-rules-taken = sym b' ∙ ap says c'
+  module _ (z : Sizes) (out : List ℕ) where
+    -- a refusal leaves the output buffer as it was
+    pub left-refused :
+        (r : Result ℕ PageRefusal) (why : PageRefusal) → Exit r why → outcome_says r ≡ page_says l p page z (length out) → out ≡ page_leaves l p page z out
+    left-refused r why f e =
+        let x : (who : Who) × (n : ℕ) × (d : ℕ) × (refusal_says why ≡ names who (refuses n d)) = refusal-named why in
+        sym (page-refused l p page z out x.0 x.1 x.2 (sym e ∙ ap outcome_says (passed_on r why f) ∙ x.3))
 
-      pub by_count : (n : ℕ) → n ≡ length (lines_of page) → 255 < n → Leaves (names the_page (refuses 20 0)) out
-      by_count n e h =
-          refused the_page 20 0 (page-many l p page z (length out) i j line-rules-taken page-rules-taken (omega arith))
+    -- the refusals in their order
+    pub by-line-rules :
+        (a : Result (List ℕ) Refusal) (r : Result ℕ PageRefusal) {why : PageRefusal} → admit_says a ≡ rules_say l → Renamed LineRules a why → Exit r why
+        → outcome_says r ≡ page_says l p page z (length out)
+    by-line-rules a r {why} e x f =
+        let y : (n : ℕ) × (d : ℕ) × (refusal x.0 ≡ refuses n d) = refusal-numbers x.0 in
+        rw (passed_on r why f, x.2, y.2) (sym (page-line-rules l p page z (length out) y.0 y.1 (sym e ∙ ap admit_says x.1 ∙ y.2)))
 
-      module _ (n : ℕ) (e : n ≡ length (lines_of page)) (h : n ≤ 255) where
-        -- the scratch is free then
-        pub scratch-free : {A : Type 0} → keeps_scratch l p page ≡ true → A
-        unfolding keeps_scratch
-        scratch-free k =
-            let few : ltb 255 (length (lines_of page)) ≡ false = le-ltb 255 (length (lines_of page)) (omega arith) in
-            let none : keeps_scratch l p page ≡ false = simp (line-rules-taken, page-rules-taken, few) in
-            absurd (true≢false (sym k ∙ none))
+    pub by-page-rules :
+        {i : ℕ} (b : Result (List ℕ) Refusal) (r : Result ℕ PageRefusal) {why : PageRefusal} → rules_say l ≡ gives i → admit_says b ≡ rules_say p
+        → Renamed PageRules b why → Exit r why
+        → outcome_says r ≡ page_says l p page z (length out)
+    by-page-rules {i} b r {why} lines-in e x f =
+        let y : (n : ℕ) × (d : ℕ) × (refusal x.0 ≡ refuses n d) = refusal-numbers x.0 in
+        rw (passed_on r why f, x.2, y.2)
+        (sym (page-page-rules l p page z (length out) i y.0 y.1 lines-in (sym e ∙ ap admit_says x.1 ∙ y.2)))
 
-        module _ {classes : List ℕ} {r : Lines} (x : LinesRead l z page classes r) where
-          pub by-line : (why : Refusal) (number : ℕ) → r ≡ of.Refused why number → Leaves (names one_line (at_line number (refusal why))) out
-          by-line why number f =
-              let y : (n : ℕ) × (d : ℕ) × (refusal why ≡ refuses n d) = refusal-numbers why in
-              rw y.2
-              (refused one_line y.0 number
-              (page-lines-said l p page z (length out) i j line-rules-taken page-rules-taken (omega arith)
-              ∙ x.said _
-              ∙ rw (f, y.2)))
+    module _ {i j : ℕ} (lines-in : rules_say l ≡ gives i) (page-in : rules_say p ≡ gives j) {n : ℕ} (e : n ≡ length (lines_of page)) where
+      pub by_count : 255 < n → names the_page (refuses 20 0) ≡ page_says l p page z (length out)
+      by_count h = sym (page-many l p page z (length out) i j lines-in page-in (omega arith))
 
-          by-classes :
-              (count : ℕ) (work : ℕ) (final : List ℕ) (said : PageSaid) → r ≡ of.Taken count → work ≡ z.work
-              → said ≡ names the_page (read_says p.table p.start (take count classes) work (length out))
-              → final ≡ read_leaves p.table p.start (take count classes) work out
-              → Leaves said final
-          by-classes count work final said f w s g =
-              let t : PageTaken l p page z =
+      pub left_by_count : 255 < n → out ≡ page_leaves l p page z out
+      left_by_count h = sym (page-refused l p page z out the_page 20 0 (sym (by_count h)))
+
+      module _ (h : n ≤ 255) {classes : List ℕ} {r : Result ℕ PageRefusal} (x : LinesRead l z page classes r) where
+        pub by-line : (s : Result ℕ PageRefusal) {why : PageRefusal} → r ≡ Err why → Exit s why → outcome_says s ≡ page_says l p page z (length out)
+        by-line s {why} f g =
+            let said : PageSaid = names the_page (read_says p.table p.start (classes_of l page) z.work (length out)) in
+            rw (passed_on s why g)
+            (sym
+            (page-lines-said l p page z (length out) i j lines-in page-in (omega arith)
+            ∙ x.said said
+            ∙ ap (λ (q : Result ℕ PageRefusal). lines_then q said) f))
+
+        -- nothing is refused: what Read says and leaves of the class bytes
+        module _ {m : ℕ} (f : r ≡ Ok m) where
+          all-taken : PageTaken l p page z
+          all-taken =
               record {
-                by_lines = rules-counted l i line-rules-taken;
-                by_page = rules-counted p j page-rules-taken;
+                by_lines = rules-counted l i lines-in;
+                by_page = rules-counted p j page-in;
                 few = omega arith;
                 lines = said_all l z 0 (lines_of page) (λ u. x.said u ∙ rw f);
-              } in (
-                s
-                    ∙ ap (λ (m : ℕ). names the_page (read_says p.table p.start (take count classes) m (length out))) w
-                    ∙ ap (λ (cs : List ℕ). names the_page (read_says p.table p.start cs z.work (length out))) (x.classed count f)
-                    ∙ sym (page-said l p page z t (length out)),
-                g
-                    ∙ ap (λ (m : ℕ). read_leaves p.table p.start (take count classes) m out) w
-                    ∙ ap (λ (cs : List ℕ). read_leaves p.table p.start cs z.work out) (x.classed count f)
-                    ∙ sym (page-left l p page z t out),
-              )
+              }
 
-          -- by a table, a start number and class bytes that are the page's
-          pub by-these-classes :
-              (t : List ℕ) (k : ℕ) (cs : List ℕ) (count work : ℕ) (final : List ℕ) (said : PageSaid) → r ≡ of.Taken count → work ≡ z.work
-              → said ≡ names the_page (read_says t k cs work (length out))
-              → final ≡ read_leaves t k cs work out
-              → t ≡ p.table
-              → k ≡ p.start
-              → cs ≡ take count classes
-              → Leaves said final
-          by-these-classes t k cs count work final said f w s g a b d =
-              by-classes count work final said f w (rw (a, b, d) at s) (rw (a, b, d) at g)
+          these-classes : take m classes ≡ classes_of l page
+          these-classes = IfOk-at_ok (λ n. take n classes ≡ classes_of l page) f x.classed
+
+          pub by-classes :
+              (said : PageSaid) → said ≡ names the_page (read_says p.table p.start (take m classes) z.work (length out))
+              → said ≡ page_says l p page z (length out)
+          by-classes said s = s ∙ rw these-classes (sym (page-said l p page z all-taken (length out)))
+
+          pub left_by-classes :
+              (final : List ℕ) → final ≡ read_leaves p.table p.start (take m classes) z.work out → final ≡ page_leaves l p page z out
+          left_by-classes final g = g ∙ rw these-classes (sym (page-left l p page z all-taken out))

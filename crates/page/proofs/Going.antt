@@ -1,15 +1,15 @@
 -- The lines of a page one after the other: what holds before each of them, and at their end or at the first that is refused.
 -- Assumes nothing.
-use Prim.Native.Nat.{ℕ, suc, ◌+◌, ◌-◌, ◌≤◌, ◌<◌, min}
+use Prim.Native.Nat.{ℕ, suc, ◌+◌, ◌-◌, ◌/◌, ◌≤◌, ◌<◌, min}
 use mathlib.Core.Path.{◌≡◌, refl, sym, ◌∙◌, ap}
 use mathlib.Core.Bool.{Bool, true, false}
 use mathlib.Core.List.{List, [], ◌∷◌, ◌++◌, append_assoc, append-nil, map}
 use native.Mathlib.Omega.{arith}
 use native.Mathlib.Numerals.{add-one}
 use lib.ListN.{length, take, drop, drop_of_length-le}
+use Rattle.std.specs.Prelude.{Result, Ok, Err}
 use Rattle.table.specs.declared.Refusal.{Refusal}
-use Rattle.table.specs.declared.Answer.TheVariants.{Done, Refused}
-use Rattle.table.specs.Answers.{Said, gives, refuses, refusal, says}
+use Rattle.table.specs.Answers.{Said, gives, refuses, refusal}
 use Rattle.reading.proofs.Admission.{refusal-numbers}
 use Rattle.tokens.specs.Tokens.{Token, cons_if, token_bytes, Inside}
 use Rattle.lines.specs.Lines.{lines_of}
@@ -18,11 +18,11 @@ use Rattle.lines.proofs.Nexts.{lines_next, next-counted}
 use Rattle.lexer.specs.Lexing.{tokens_of, lex_says}
 use Rattle.lexer.proofs.Lexing.{line-inside}
 use Rattle.page.specs.declared.Step.{Step}
-use Rattle.page.specs.declared.Lines.TheVariants as of
-use Rattle.page.specs.Entries.{Rules, Entry, entry_of, class_of}
+use Rattle.page.specs.declared.PageRefusal.TheVariants.{OneLine}
+use Rattle.page.specs.Entries.{Rules, Entry, entry_of, class_of, Within}
 use Rattle.page.specs.Outcomes.{one_line, PageSaid, names, at_line}
 use Rattle.page.specs.Pages.{Sizes, by_parity, if_taken, line_says, lines_say, entries_of, classes_of}
-use Rattle.page.specs.Steps.{opens_run, classes_from, Within, Stepped, LinesRead}
+use Rattle.page.specs.Steps.{opens_run, classes_from, step_says, Stepped, LinesRead}
 use Rattle.page.proofs.Runs.{classes-from}
 use Rattle.page.proofs.Comparing.{inside-within}
 use Rattle.page.proofs.Parity.{parity-next, parity-length}
@@ -110,17 +110,15 @@ module _
   prior-within = inside-within prior g.before g.listed g.within
 
   -- after the last line
-  pub going_end : length (lines_of page) ≤ 255 → length page ≤ at → LinesRead l z page classes (of.Taken count)
+  pub going_end : length (lines_of page) ≤ 255 → length page ≤ at → LinesRead l z page classes (Ok count)
   going_end most h =
       let none : drop at page ≡ [] = drop_of_length-le page h in
       let all : number ≡ length (lines_of page) = omega (arith, g.numbered, ap (λ (x : List ℕ). length (lines_of x)) none) in
       record {
         said = λ said. g.said said ∙ ap (λ (x : List ℕ). lines_say l z number (lines_of x) said) none;
-        few = λ n e. omega (arith, (let f : count ≡ n = cc in f), g.few, all);
-        classed = λ n e.
-            let f : count ≡ n = cc in
-            ap (λ (i : ℕ). take i classes) (sym f)
-            ∙ sym (append-nil (take count classes))
+        few = omega (arith, g.few, all);
+        classed =
+            sym (append-nil (take count classes))
             ∙ ap (λ (x : List ℕ). take count classes ++ classes_from number last (entries_of l x)) (sym none)
             ∙ g.classed;
       }
@@ -143,11 +141,11 @@ module _
     said-next said = g.said said ∙ ap (λ (ss : List (List ℕ)). lines_say l z number ss said) next
 
     module _
-        (first' second' : List ℕ) {classes' : List ℕ} {r : Step}
+        (first' second' : List ℕ) {classes' : List ℕ} {r : Result Step Refusal}
         (x : Stepped l (length work) (length reading) number line prior (take size (by_parity number second first)) (by_parity number first second) (by_parity number first' second') classes count classes' r)
       where
         -- what is said of it
-        line-said : says r.answer ≡ line_says l z number line
+        line-said : step_says r ≡ line_says l z number line
         line-said =
             x.said
             ∙ ap (λ (n : ℕ). lex_says l.table l.start line n (length reading) (length (by_parity number first second))) k.of_work
@@ -158,41 +156,41 @@ module _
             ∙ ap (by_parity number z.first) k.of_second)
 
         -- it is refused
-        pub going-refused : (why : Refusal) → r.answer ≡ Refused why → LinesRead l z page classes' (of.Refused why number)
+        pub going-refused : (why : Refusal) → r ≡ Err why → LinesRead l z page classes' (Err (OneLine why number))
         going-refused why f =
             record {
-              said = λ said. said-next said ∙ turned-away _ why _ number (sym (ap says f) ∙ line-said);
-              few = λ n d. let w : ◌≡◌ {A = ℕ} 0 1 = cc in absurd (omega arith);
-              classed = λ n d. let w : ◌≡◌ {A = ℕ} 0 1 = cc in absurd (omega arith);
+              said = λ said. said-next said ∙ turned-away _ why _ number (sym (ap step_says f) ∙ line-said);
+              few = tt;
+              classed = tt;
             }
 
         -- it is taken
         pub going_on :
-            (m at' : ℕ) → r.answer ≡ Done m → at' ≡ min (end + 1) (length page) → length first' ≡ length first → length second' ≡ length second
-            → Going l z page first' second' classes' at end at' (number + 1) r.size r.count
-        going_on m at' f n a b =
+            (step : Step) (at' : ℕ) → r ≡ Ok step → at' ≡ min (end + 1) (length page) → length first' ≡ length first → length second' ≡ length second
+            → Going l z page first' second' classes' at end at' (number + 1) step.size step.count
+        going_on step at' f n a b =
             record {
               inside = omega arith;
               behind = e.behind;
               ended = e.inside;
               numbered = next-counted e h number (length (lines_of page)) g.numbered n;
-              few = omega (arith, x.few, g.few);
+              few = omega (arith, taken.few, g.few);
               before = tokens_of l.table l.start line;
               within = line-inside l.table l.start line;
               held =
                   omega (
                     arith,
-                    x.held m (ap says f),
+                    taken.held,
                     ap length own,
                     parity-length number first second,
                     parity-length number first' second',
                     ap (λ (i : ℕ). by_parity number i (length second')) a,
                     ap (by_parity number (length first)) b,
                   );
-              listed = ap (take r.size) own ∙ x.listed m (ap says f);
+              listed = ap (take step.size) own ∙ taken.listed;
               classed =
                   ap (λ (cs : List ℕ). cs ++ classes_from (number + 1) (entry_of l line) (entries_of l (drop at' page)))
-                  (x.classed m (ap says f) g.before g.listed)
+                  (taken.classed g.before g.listed)
                   ∙ append_assoc (take count classes) (cons_if (opens_run number last (entry_of l line)) (class_of (entry_of l line)) [])
                   (classes_from (number + 1) (entry_of l line) (entries_of l (drop at' page)))
                   ∙ ap (λ (cs : List ℕ). take count classes ++ cs)
@@ -212,10 +210,13 @@ module _
                   ∙ g.classed;
               said = λ said.
                   said-next said
-                  ∙ taken-on _ m _ number (sym line-said ∙ ap says f)
+                  ∙ taken-on _ (step.size / 3) _ number (sym line-said ∙ ap step_says f)
                   ∙ ap (λ (i : ℕ). lines_say l z i later said) (sym (add-one number))
                   ∙ ap (λ (i : ℕ). lines_say l z (number + 1) (lines_of (drop i page)) said) (sym n);
             }
           where
             own : by_parity (number + 1) second' first' ≡ by_parity number first' second'
             own = ap (λ (i : ℕ). by_parity i second' first') (add-one number) ∙ parity-next number second' first'
+
+            taken : Stepped l (length work) (length reading) number line prior (take size (by_parity number second first)) (by_parity number first second) (by_parity number first' second') classes count classes' (Ok step)
+            taken = rw f at x

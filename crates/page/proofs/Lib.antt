@@ -4,12 +4,11 @@ pub mod Runs
 pub mod Division
 pub mod Classes
 pub mod Meaning
-pub mod Reordered
 pub mod Cases
 -- What only the functions' proofs go by.
+mod Exits
 mod Pointwise
 mod Parity
-mod Names
 mod Comparing
 mod Taking
 mod Going

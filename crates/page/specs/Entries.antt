@@ -1,8 +1,8 @@
 -- A line with its tokens; when two of them are alike (document 02, request 10): "the same names in order and, for each token, the same bytes of text.
 -- Offsets don't count."; and its class (request 8): "The class of a line is its first token's name, or 0 if it has none."
 -- Assumes nothing.
-use Rattle.std.specs.Prelude.{ℕ, Bool, true, false, ◌&&◌, List, [], ◌∷◌, map, eqb}
-use Rattle.tokens.specs.Tokens.{Token, Named, text_at}
+use Rattle.std.specs.Prelude.{ℕ, ◌+◌, ◌*◌, ◌≤◌, ◌<◌, Bool, true, false, ◌&&◌, List, [], ◌∷◌, map, eqb, length}
+use Rattle.tokens.specs.Tokens.{Token, Named, text_at, nth_token}
 use Rattle.lexer.specs.Lexing.{tokens_of}
 
 -- the rules that lines are read by: a table and a start number
@@ -17,6 +17,10 @@ pub record Entry : Type 0 where
 
 abbrev pub entry_of : Rules → List ℕ → Entry
 entry_of l s = record { text = s; tokens = tokens_of l.table l.start s }
+
+-- the tokens of a list's bytes lie inside a line
+abbrev pub Within : List ℕ → List ℕ → Type 0
+Within s ts = (i : ℕ) → 3 * i + 2 < length ts → (nth_token ts i).offset + (nth_token ts i).size ≤ length s
 
 -- lists of one length whose elements pass a test, each with the one at its place
 abbrev pub pointwise : {A : Type 0} → (A → A → Bool) → List A → List A → Bool

@@ -1,10 +1,10 @@
 -- The page's answer: a result or a refusal, and the one that is refused (document 02, request 8): "Turned away, naming line rules, page rules, one
 -- line or the page". And its number for a C caller.
 -- Assumes nothing.
-use Rattle.std.specs.Prelude.{ℕ, ◌+◌, ◌*◌}
+use Rattle.std.specs.Prelude.{ℕ, ◌+◌, ◌*◌, Result, Ok, Err}
 use Rattle.table.specs.Answers.{Said, gives, refuses, refusal, number}
-use Rattle.page.specs.declared.Outcome.{Outcome}
-use Rattle.page.specs.declared.Outcome.TheVariants.{Done, LineRules, PageRules, OneLine, WholePage}
+use Rattle.page.specs.declared.PageRefusal.{PageRefusal}
+use Rattle.page.specs.declared.PageRefusal.TheVariants.{LineRules, PageRules, OneLine, WholePage}
 
 pub data Who : Type 0 where
   the_page : Who
@@ -25,12 +25,15 @@ at_line i (gives n) = gives n
 at_line i (refuses n d) = refuses n i
 
 -- every case of the answer in the paper's numbers
-abbrev pub outcome_says : Outcome → PageSaid
-outcome_says (Done n) = names the_page (gives n)
-outcome_says (LineRules why) = names line_rules (refusal why)
-outcome_says (PageRules why) = names page_rules (refusal why)
-outcome_says (OneLine why i) = names one_line (at_line i (refusal why))
-outcome_says (WholePage why) = names the_page (refusal why)
+abbrev pub refusal_says : PageRefusal → PageSaid
+refusal_says (LineRules why) = names line_rules (refusal why)
+refusal_says (PageRules why) = names page_rules (refusal why)
+refusal_says (OneLine why i) = names one_line (at_line i (refusal why))
+refusal_says (WholePage why) = names the_page (refusal why)
+
+abbrev pub outcome_says : Result ℕ PageRefusal → PageSaid
+outcome_says (Ok n) = names the_page (gives n)
+outcome_says (Err why) = refusal_says why
 
 -- the number for C: the one named times 2^56, plus the number of what is said of it
 abbrev pub who_number : Who → ℕ

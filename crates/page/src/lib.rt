@@ -2,187 +2,141 @@
 
 #![tactic(auto)]
 
-ghost use Rattle.std.specs.Prelude.{◌+◌, ◌*◌, ◌≤◌, ◌<◌, ◌≡◌, true, List, [], ◌++◌, length, take};
-ghost use Rattle.tokens.specs.Tokens.{Token, cons_if, token_bytes, nth_token, text_at};
+ghost use Rattle.std.specs.Prelude.{◌+◌, ◌*◌, ◌≤◌, ◌<◌, ◌≡◌, true, List, length, take};
+ghost use Rattle.tokens.specs.Tokens.{Token, token_bytes, nth_token, text_at};
 ghost use Rattle.matcher.specs.Calls.{read_says, read_leaves};
 ghost use Rattle.lines.specs.Lines.{lines_of};
-ghost use Rattle.page.specs.Entries.{same_text, same_named, alike, first_name};
+ghost use Rattle.page.specs.Entries.{same_named, alike, first_name, Within};
 ghost use Rattle.page.specs.Outcomes.{the_page, names, outcome_says};
 ghost use Rattle.page.specs.Pages.{by_parity, page_says, page_leaves, keeps_scratch};
-ghost use Rattle.page.specs.Steps.{opens_run, Within, Stepped, LinesRead};
+ghost use Rattle.page.specs.Steps.{rules_of, opens_run, Stepped, LinesRead};
 
-use reading::Place;
-use table::{Answer, Refusal};
+use table::Refusal;
 
-// What is answered for a page: the record count of its reading, or a refusal of the line rules, of the page rules, of one line with its number, or
-// of the page.
-#[derive(Drop)]
-pub enum Outcome {
-    Done(usize),
+// Who refuses a page, and why: the line rules, the page rules, one line with its number, or the page.
+#[derive(Clone, Copy, Debug, PartialEq, Eq)]
+pub enum PageRefusal {
     LineRules(Refusal),
     PageRules(Refusal),
     OneLine(Refusal, usize),
     WholePage(Refusal),
 }
 
-// What is answered for a line, the bytes of its tokens, and the number of class bytes with its own.
-#[derive(Drop)]
-pub struct Step {
-    pub answer: Answer,
-    pub size: usize,
-    pub count: usize,
+// What a line is read by: a table and a start number.
+#[derive(Clone, Copy)]
+struct Reader<'a> {
+    table: &'a [u8],
+    start: usize,
 }
 
-// What is answered for the lines of a page: the number of their class bytes, or the refusal of one, with its number.
+// A line with the bytes of its tokens, which lie inside it.
 #[derive(Drop)]
-pub enum Lines {
-    Taken(usize),
-    Refused(Refusal, usize),
+struct Line<'a> {
+    text: &'a [u8],
+    tokens: &'a [u8],
+    ghost inside: { Within text.now tokens.now },
 }
 
-// Whether two texts are the same bytes.
-fn same_text(first: &[u8], second: &[u8]) -> bool
-    ensures { result ≡ same_text first.now second.now }
-{
-    let n = first.len();
-    if second.len() != n {
-        return false;
-    }
-    let mut i = 0;
-    while i < n {
-        if first[i] != second[i] {
+impl Line<'_> {
+    // Whether token i of this line and of another have the same name and the same text.
+    fn same_token(&self, other: &Line, i: usize) -> bool
+        requires own { 3 * i + 2 < length self.now.tokens.now }
+        requires others { 3 * i + 2 < length other.now.tokens.now }
+        ensures { result
+            ≡ same_named (text_at self.now.text.now (nth_token self.now.tokens.now i))
+            (text_at other.now.text.now (nth_token other.now.tokens.now i)) }
+    {
+        let at = 3 * i;
+        if self.tokens[at] != other.tokens[at] {
             return false;
         }
-        i += 1;
+        let own_start = self.tokens[at + 1] as usize;
+        let own_end = own_start + self.tokens[at + 2] as usize;
+        let start = other.tokens[at + 1] as usize;
+        let end = start + other.tokens[at + 2] as usize;
+        self.text[own_start..own_end] == other.text[start..end]
     }
-    true
-}
 
-// Whether token i of the line before and token i of the line have the same name and the same text.
-fn same_token(prior: &[u8], priortokens: &[u8], line: &[u8], tokens: &[u8], i: usize) -> bool
-    requires prior { 3 * i + 2 < length priortokens.now }
-    requires own { 3 * i + 2 < length tokens.now }
-    requires priorinside { Within prior.now priortokens.now }
-    requires inside { Within line.now tokens.now }
-    ensures { result
-        ≡ same_named (text_at prior.now (nth_token priortokens.now i))
-        (text_at line.now (nth_token tokens.now i)) }
-{
-    let at = 3 * i;
-    if priortokens[at] != tokens[at] {
-        return false;
-    }
-    let prior_start = priortokens[at + 1] as usize;
-    let prior_end = prior_start + priortokens[at + 2] as usize;
-    let start = tokens[at + 1] as usize;
-    let end = start + tokens[at + 2] as usize;
-    same_text(&prior[prior_start..prior_end], &line[start..end])
-}
-
-// Whether the line before and the line are alike, each with its tokens.
-fn same_tokens(prior: &[u8], priortokens: &[u8], line: &[u8], tokens: &[u8]) -> bool
-    requires prior { Within prior.now priortokens.now }
-    requires own { Within line.now tokens.now }
-    ensures { (xs ys : List Token) → priortokens.now ≡ token_bytes xs → tokens.now ≡ token_bytes ys
-        → result ≡ alike (record { text = prior.now; tokens = xs }) (record { text = line.now; tokens = ys }) }
-{
-    let n = priortokens.len();
-    if tokens.len() != n {
-        return false;
-    }
-    let count = n / 3;
-    let mut i = 0;
-    while i < count {
-        if !same_token(prior, priortokens, line, tokens, i) {
+    // Whether this line and another are alike.
+    fn same_tokens(&self, other: &Line) -> bool
+        ensures { (xs ys : List Token) → self.now.tokens.now ≡ token_bytes xs → other.now.tokens.now ≡ token_bytes ys
+            → result
+            ≡ alike (record { text = self.now.text.now; tokens = xs }) (record { text = other.now.text.now; tokens = ys }) }
+    {
+        if self.tokens.len() != other.tokens.len() {
             return false;
         }
-        i += 1;
+        for i in 0..self.tokens.len() / 3 {
+            if !self.same_token(other, i) {
+                return false;
+            }
+        }
+        true
     }
-    true
+
+    // The name of the line's first token, or 0.
+    fn first_name(&self) -> u8
+        ensures { (xs : List Token) → self.now.tokens.now ≡ token_bytes xs → result ≡ first_name xs }
+    {
+        self.tokens.first().copied().unwrap_or(0)
+    }
+
+    // Whether the line with a number opens a run behind the line before it.
+    fn opens_run(&self, number: usize, prior: &Line) -> bool
+        ensures { (xs ys : List Token) → prior.now.tokens.now ≡ token_bytes xs → self.now.tokens.now ≡ token_bytes ys
+            → result
+            ≡ opens_run number (record { text = prior.now.text.now; tokens = xs })
+            (record { text = self.now.text.now; tokens = ys }) }
+    {
+        number == 0 || !prior.same_tokens(self)
+    }
 }
 
-// The name of the first token of a list, or 0.
-fn first_name(tokens: &[u8]) -> u8
-    ensures { (xs : List Token) → tokens.now ≡ token_bytes xs → result ≡ first_name xs }
-{
-    if tokens.len() == 0 {
-        return 0;
-    }
-    tokens[0]
-}
-
-// Whether a line with its number and tokens opens a run, after the line before and its tokens.
-fn opens_run(number: usize, prior: &[u8], priortokens: &[u8], line: &[u8], tokens: &[u8]) -> bool
-    requires prior { Within prior.now priortokens.now }
-    requires own { Within line.now tokens.now }
-    ensures { (xs ys : List Token) → priortokens.now ≡ token_bytes xs → tokens.now ≡ token_bytes ys
-        → result ≡ opens_run number (record { text = prior.now; tokens = xs }) (record { text = line.now; tokens = ys }) }
-{
-    if number == 0 {
-        return true;
-    }
-    !same_tokens(prior, priortokens, line, tokens)
-}
-
-// Puts a class behind so many class bytes if it is to be put, and returns their number then.
-fn put_class(classes: &mut [u8], count: usize, class: u8, put: bool) -> usize
-    requires { count < length classes.old }
-    ensures bound { result ≤ count + 1 }
-    ensures classes { take result classes.new ≡ take count classes.old ++ cons_if put class [] }
-{
-    if put {
-        classes[count] = class;
-        return count + 1;
-    }
-    count
+// What is read of a line: the bytes of its tokens, and the number of class bytes with its own.
+#[derive(Drop)]
+struct Step {
+    size: usize,
+    count: usize,
 }
 
 // Reads a line: its tokens go into a buffer of its own, and its class behind so many class bytes if it opens a run.
 fn take_line(
-    table: &[u8],
-    start: usize,
-    line: &[u8],
+    reader: Reader,
+    text: &[u8],
     number: usize,
-    prior: &[u8],
-    priortokens: &[u8],
+    prior: &Line,
     work: &mut [u8],
     reading: &mut [u8],
     own: &mut [u8],
     classes: &mut [u8],
     count: usize,
-) -> Step
-    requires classes { count < length classes.old }
-    requires prior { Within prior.now priortokens.now }
-    ensures { Stepped (record { table = table.now; start = start }) (length work.old) (length reading.old) number
-        line.now prior.now priortokens.now own.old own.new classes.old count
-        classes.new result }
+) -> Result<Step, Refusal>
+    requires { count < length classes.old }
+    ensures { Stepped (rules_of reader.entry) (length work.old) (length reading.old) number text.now
+        prior.now.text.now prior.now.tokens.now own.old own.new
+        classes.old count classes.new result }
 {
-    match lexer::lex(table, start, line, work, reading, own) {
-        Answer::Done(n) => {
-            let size = 3 * n;
-            let class = first_name(&own[..size]);
-            let opens = opens_run(number, prior, priortokens, line, &own[..size]);
-            let with_class = put_class(classes, count, class, opens);
-            Step {
-                answer: Answer::Done(n),
-                size,
-                count: with_class,
-            }
-        }
-        Answer::Refused(why) => Step {
-            answer: Answer::Refused(why),
-            size: 0,
-            count,
-        },
+    let tokens = lexer::lex(reader.table, reader.start, text, work, reading, own)?;
+    let size = 3 * tokens;
+    let line = Line {
+        text,
+        tokens: &own[..size],
+    };
+    if !line.opens_run(number, prior) {
+        return Ok(Step { size, count });
     }
+    classes[count] = line.first_name();
+    Ok(Step {
+        size,
+        count: count + 1,
+    })
 }
 
 // The same with two token buffers, of which the line uses the first if its number is even; the other one has the tokens of the line before, so
 // many bytes.
 fn take_by_parity(
-    table: &[u8],
-    start: usize,
-    line: &[u8],
+    reader: Reader,
+    text: &[u8],
     number: usize,
     prior: &[u8],
     size: usize,
@@ -192,60 +146,47 @@ fn take_by_parity(
     second: &mut [u8],
     classes: &mut [u8],
     count: usize,
-) -> Step
+) -> Result<Step, Refusal>
     requires classes { count < length classes.old }
     requires size { size ≤ length (by_parity number second.old first.old) }
     requires prior { Within prior.now (take size (by_parity number second.old first.old)) }
     ensures kept { by_parity number second.new first.new ≡ by_parity number second.old first.old }
-    ensures line { Stepped (record { table = table.now; start = start }) (length work.old) (length reading.old) number
-        line.now prior.now (take size (by_parity number second.old first.old))
+    ensures line { Stepped (rules_of reader.entry) (length work.old) (length reading.old) number
+        text.now prior.now (take size (by_parity number second.old first.old))
         (by_parity number first.old second.old) (by_parity number first.new second.new)
         classes.old count classes.new result }
 {
     if number % 2 == 0 {
+        let prior = Line {
+            text: prior,
+            tokens: &second[..size],
+        };
         return take_line(
-            table,
-            start,
-            line,
-            number,
-            prior,
-            &second[..size],
-            work,
-            reading,
-            first,
-            classes,
-            count,
+            reader, text, number, &prior, work, reading, first, classes, count,
         );
     }
+    let prior = Line {
+        text: prior,
+        tokens: &first[..size],
+    };
     take_line(
-        table,
-        start,
-        line,
-        number,
-        prior,
-        &first[..size],
-        work,
-        reading,
-        second,
-        classes,
-        count,
+        reader, text, number, &prior, work, reading, second, classes, count,
     )
 }
 
 // Reads the lines of a page in order, up to the first that is refused, and puts their class bytes to the front of a buffer.
 fn take_lines(
-    table: &[u8],
-    start: usize,
+    reader: Reader,
     page: &[u8],
     work: &mut [u8],
     reading: &mut [u8],
     first: &mut [u8],
     second: &mut [u8],
     classes: &mut [u8],
-) -> Lines
+) -> Result<usize, PageRefusal>
     requires few { length (lines_of page.now) ≤ 255 }
     requires classes { length classes.old ≡ 255 }
-    ensures { LinesRead (record { table = table.now; start = start })
+    ensures { LinesRead (rules_of reader.entry)
         (record { work = length work.old; reading = length reading.old; first = length first.old; second = length second.old })
         page.now classes.new result }
 {
@@ -258,8 +199,7 @@ fn take_lines(
     while at < page.len() {
         let end = lines::line_end(page, at);
         let step = take_by_parity(
-            table,
-            start,
+            reader,
             &page[at..end],
             number,
             &page[prior_start..prior_end],
@@ -270,11 +210,8 @@ fn take_lines(
             second,
             classes,
             count,
-        );
-        let answer = step.answer;
-        if let Answer::Refused(why) = answer {
-            return Lines::Refused(why, number);
-        }
+        )
+        .map_err(|why| PageRefusal::OneLine(why, number))?;
         size = step.size;
         count = step.count;
         prior_start = at;
@@ -282,7 +219,7 @@ fn take_lines(
         at = lines::next_line(page, end);
         number += 1;
     }
-    Lines::Taken(count)
+    Ok(count)
 }
 
 // Reads class bytes by the page rules.
@@ -292,15 +229,12 @@ fn read_classes(
     classes: &[u8],
     work: &mut [u8],
     out: &mut [u8],
-) -> Outcome
+) -> Result<usize, PageRefusal>
     ensures answer { outcome_says result
         ≡ names the_page (read_says table.now start classes.now (length work.old) (length out.old)) }
     ensures buffer { out.new ≡ read_leaves table.now start classes.now (length work.old) out.old }
 {
-    match matcher::read(table, start, classes, work, out) {
-        Answer::Done(n) => Outcome::Done(n),
-        Answer::Refused(why) => Outcome::WholePage(why),
-    }
+    matcher::read(table, start, classes, work, out).map_err(PageRefusal::WholePage)
 }
 
 // Reads a page: its lines by the line rules, and their classes by the page rules. Writes the POSIX reading of the class bytes to the front of the
@@ -316,7 +250,7 @@ pub fn read_page(
     first: &mut [u8],
     second: &mut [u8],
     out: &mut [u8],
-) -> Outcome
+) -> Result<usize, PageRefusal>
     ensures answer { outcome_says result
         ≡ page_says (record { table = linetable.now; start = linestart }) (record { table = pagetable.now; start = pagestart })
         page.now
@@ -332,29 +266,16 @@ pub fn read_page(
         → (work.new ≡ work.old) × (reading.new ≡ reading.old) × (first.new ≡ first.old)
         × (second.new ≡ second.old) }
 {
-    let line_rules = reading::admit(linetable, linestart);
-    if let Answer::Refused(why) = line_rules {
-        return Outcome::LineRules(why);
-    }
-    let page_rules = reading::admit(pagetable, pagestart);
-    if let Answer::Refused(why) = page_rules {
-        return Outcome::PageRules(why);
-    }
+    reading::admit(linetable, linestart).map_err(PageRefusal::LineRules)?;
+    reading::admit(pagetable, pagestart).map_err(PageRefusal::PageRules)?;
     if 255 < lines::count_lines(page) {
-        return Outcome::WholePage(Refusal::Lines);
+        return Err(PageRefusal::WholePage(Refusal::Lines));
     }
     let mut classes = [0u8; 255];
-    match take_lines(
-        linetable,
-        linestart,
-        page,
-        work,
-        reading,
-        first,
-        second,
-        &mut classes,
-    ) {
-        Lines::Taken(count) => read_classes(pagetable, pagestart, &classes[..count], work, out),
-        Lines::Refused(why, number) => Outcome::OneLine(why, number),
-    }
+    let reader = Reader {
+        table: linetable,
+        start: linestart,
+    };
+    let count = take_lines(reader, page, work, reading, first, second, &mut classes)?;
+    read_classes(pagetable, pagestart, &classes[..count], work, out)
 }

@@ -1,11 +1,8 @@
 -- `notation::take_bar` meets its contract. Assumes nothing.
 use mathlib.Core.Path.{refl}
-use Rattle.notation.proofs.Showing.{is_item, is-not_item}
-use Rattle.notation.proofs.Taking.{bar-stops, bar-taken}
+use Rattle.notation.proofs.Showing.{is-not_item}
+use Rattle.notation.proofs.Taking.{bar-taken}
 use Rattle.notation.proofs.take_bar.Goals as goal
-
-pub returns-then-eq-clause-took : goal.returns-then-eq-clause-took
-returns-then-eq-clause-took c = λ fs l m i stack entry s. rw (bar-stops i s (is_item _ _ c.eq.ensures c.if-eq.true)) tt
 
 pub returns-clause-took : goal.returns-clause-took
 returns-clause-took c =

@@ -1,7 +1,7 @@
 -- `notation::take_close` meets its contract. Assumes nothing.
 use mathlib.Core.Path.{refl}
-use Rattle.notation.proofs.Showing.{not-other_item, other_item, no-marks, some-marks}
-use Rattle.notation.proofs.Taking.{close-missing, close-taken, close-empty}
+use Rattle.notation.proofs.Showing.{not-other_item, other_item, no-marks}
+use Rattle.notation.proofs.Taking.{close-taken, close-empty}
 use Rattle.notation.proofs.take_close.Goals as goal
 
 pub returns-then-ne-clause-took : goal.returns-then-ne-clause-took
@@ -9,11 +9,6 @@ returns-then-ne-clause-took c =
     λ fs l m i entry s.
     close-taken fs l m i _ s (rw c.in_ok-depth.was at c.checked_sub.ensures) (other_item _ _ c.ne.ensures c.if-ne.true)
     (λ t q. c.end_row-count.ensures.shown fs l m t _ entry q) refl refl c.group_item.ensures refl
-
-pub returns-then-ne-2-clause-took : goal.returns-then-ne-2-clause-took
-returns-then-ne-2-clause-took c =
-    λ fs l m i entry s.
-    rw (close-missing fs l m i s (not-other_item _ _ c.ne.ensures c.if-ne.false) (some-marks _ _ c.ne-2.ensures c.if-ne-2.true)) tt
 
 pub returns-clause-took : goal.returns-clause-took
 returns-clause-took c =

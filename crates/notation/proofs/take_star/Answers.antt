@@ -1,11 +1,8 @@
 -- `notation::take_star` meets its contract. Assumes nothing.
 use mathlib.Core.Path.{refl}
-use Rattle.notation.proofs.Showing.{is_item, is-not_item}
-use Rattle.notation.proofs.Taking.{star-stops, star-taken}
+use Rattle.notation.proofs.Showing.{is-not_item}
+use Rattle.notation.proofs.Taking.{star-taken}
 use Rattle.notation.proofs.take_star.Goals as goal
-
-pub returns-then-eq-clause-took : goal.returns-then-eq-clause-took
-returns-then-eq-clause-took c = λ fs l m i stack entry s. rw (star-stops i s (is_item _ _ c.eq.ensures c.if-eq.true)) tt
 
 pub returns-clause-took : goal.returns-clause-took
 returns-clause-took c =
