@@ -4,6 +4,7 @@ pub mod Runs
 pub mod Division
 pub mod Classes
 pub mod Meaning
+pub mod Reordered
 pub mod Cases
 -- What only the functions' proofs go by.
 mod Exits

@@ -4,6 +4,7 @@ pub mod Entries
 pub mod Runs
 pub mod Outcomes
 pub mod Pages
+pub mod Sorted
 pub mod Cases
 -- What only the functions inside are given and leave.
 pub mod Steps

@@ -104,39 +104,39 @@ fn join_low(low: usize, high: usize, a: usize, b: usize) -> Option<usize>
 
 impl Row {
     // Where record k's header of block d stands.
-    pub fn head(self) -> usize
-        requires m_bound { self.m ≤ 65535 }
-        requires d_bound { self.d ≤ 255 }
-        requires k_bound { self.k ≤ 65535 }
-        ensures { result ≡ head_at self.m self.d self.k }
+    pub fn head(&self) -> usize
+        requires m_bound { self.now.m ≤ 65535 }
+        requires d_bound { self.now.d ≤ 255 }
+        requires k_bound { self.now.k ≤ 65535 }
+        ensures { result ≡ head_at self.now.m self.now.d self.now.k }
     {
         self.m * (self.d * (self.d + 1) / 2) + self.k
     }
 
     // Where record k's row of block d starts.
-    pub fn start(self) -> usize
-        requires m_bound { self.m ≤ 65535 }
-        requires d_bound { self.d ≤ 255 }
-        requires k_bound { self.k ≤ 65535 }
-        ensures { result ≡ row_at self.m self.d self.k }
+    pub fn start(&self) -> usize
+        requires m_bound { self.now.m ≤ 65535 }
+        requires d_bound { self.now.d ≤ 255 }
+        requires k_bound { self.now.k ≤ 65535 }
+        ensures { result ≡ row_at self.now.m self.now.d self.now.k }
     {
         self.m * (self.d * (self.d + 1) / 2) + self.m + self.k * self.d
     }
 
     // The longest length of record k's row in block d, or 0.
-    pub fn longest(self, work: &[u8]) -> usize
-        requires { Inside self.m self.d self.k work.now }
-        ensures { (result ≡ longest_at work.now self.m self.d self.k) × (result < 256) }
+    pub fn longest(&self, work: &[u8]) -> usize
+        requires { Inside self.now.m self.now.d self.now.k work.now }
+        ensures { (result ≡ longest_at work.now self.now.m self.now.d self.now.k) × (result < 256) }
     {
         usize::from(work[self.head()])
     }
 
     // The lowest length of the row's run, where it is one; h is its longest length.
-    fn lowest(self, work: &[u8], h: usize) -> Option<usize>
-        requires inside { Inside self.m self.d self.k work.now }
-        requires le_d { 1 ≤ self.d }
-        requires longest { h ≡ longest_at work.now self.m self.d self.k }
-        ensures { RunTold work.now self.m self.d self.k result }
+    fn lowest(&self, work: &[u8], h: usize) -> Option<usize>
+        requires inside { Inside self.now.m self.now.d self.now.k work.now }
+        requires le_d { 1 ≤ self.now.d }
+        requires longest { h ≡ longest_at work.now self.now.m self.now.d self.now.k }
+        ensures { RunTold work.now self.now.m self.now.d self.now.k result }
     {
         if h <= 1 {
             return Some(1);
@@ -149,10 +149,10 @@ impl Row {
     }
 
     // Whether record k spells the first e of the last d bytes of the line.
-    pub fn tell(self, work: &[u8], e: usize) -> bool
-        requires inside { Inside self.m self.d self.k work.now }
-        requires e_le_d { e ≤ self.d }
-        ensures { result ≡ tells self.m work.now self.k self.d e }
+    pub fn tell(&self, work: &[u8], e: usize) -> bool
+        requires inside { Inside self.now.m self.now.d self.now.k work.now }
+        requires e_le_d { e ≤ self.now.d }
+        ensures { result ≡ tells self.now.m work.now self.now.k self.now.d e }
     {
         if e == 0 {
             return work[self.k] != 0;
@@ -171,11 +171,11 @@ impl Row {
     }
 
     // Marks the lengths from `low` to `high` in a row that is written out; the whole block's length has no mark.
-    fn mark_lengths(self, work: &mut [u8], low: usize, high: usize)
-        requires inside { Inside self.m self.d self.k work.old }
+    fn mark_lengths(&self, work: &mut [u8], low: usize, high: usize)
+        requires inside { Inside self.now.m self.now.d self.now.k work.old }
         requires le_low { 1 ≤ low }
-        requires high_le_d { high ≤ self.d }
-        ensures { Marked self.m self.d self.k (λ e. mark_set self.m work.old self.k self.d e || in_run low high e) work.old work.new }
+        requires high_le_d { high ≤ self.now.d }
+        ensures { Marked self.now.m self.now.d self.now.k (λ e. mark_set self.now.m work.old self.now.k self.now.d e || in_run low high e) work.old work.new }
     {
         let end = (high + 1).min(self.d);
         if low < end {
@@ -185,12 +185,12 @@ impl Row {
     }
 
     // Writes out a row with the lengths from `low` to `high`, none where `high` is 0.
-    fn write_out(self, work: &mut [u8], low: usize, high: usize)
-        requires inside { Inside self.m self.d self.k work.old }
-        requires le_d { 1 ≤ self.d }
+    fn write_out(&self, work: &mut [u8], low: usize, high: usize)
+        requires inside { Inside self.now.m self.now.d self.now.k work.old }
+        requires le_d { 1 ≤ self.now.d }
         requires le_low { 1 ≤ low }
-        requires high_le_d { high ≤ self.d }
-        ensures { Explicit self.m self.d self.k (in_run low high) work.old work.new }
+        requires high_le_d { high ≤ self.now.d }
+        ensures { Explicit self.now.m self.now.d self.now.k (in_run low high) work.old work.new }
     {
         let at = self.start();
         put(work, at, self.d, 0);
@@ -198,9 +198,9 @@ impl Row {
     }
 
     // Writes out a row that is a run; one that is written out stays.
-    fn without_run(self, work: &mut [u8])
-        requires { Growing self.m self.d self.k work.old }
-        ensures { Explicit self.m self.d self.k (has self.m work.old self.k self.d) work.old work.new }
+    fn without_run(&self, work: &mut [u8])
+        requires { Growing self.now.m self.now.d self.now.k work.old }
+        ensures { Explicit self.now.m self.now.d self.now.k (has self.now.m work.old self.now.k self.now.d) work.old work.new }
     {
         let h = self.longest(work);
         if let Some(low) = self.lowest(work, h) {
@@ -209,12 +209,12 @@ impl Row {
     }
 
     // Adds the lengths from `low` to `high` to a row that is written out, and raises its header; h is its longest length. Returns the new one.
-    fn raise_run(self, work: &mut [u8], low: usize, high: usize, h: usize) -> usize
-        requires is_open { Open self.m self.d self.k h work.old }
-        requires le_low { (1 ≤ low) × (low ≤ high) × (high ≤ self.d) }
+    fn raise_run(&self, work: &mut [u8], low: usize, high: usize, h: usize) -> usize
+        requires is_open { Open self.now.m self.now.d self.now.k h work.old }
+        requires le_low { (1 ≤ low) × (low ≤ high) × (high ≤ self.now.d) }
         requires long { (2 ≤ high) ⊎ (2 ≤ h) }
-        ensures grown { Grown self.m self.d self.k (λ e. open_has self.m work.old self.k self.d h e || in_run low high e) work.old work.new }
-        ensures written_out { WrittenOut self.m self.d self.k result work.new }
+        ensures grown { Grown self.now.m self.now.d self.now.k (λ e. open_has self.now.m work.old self.now.k self.now.d h e || in_run low high e) work.old work.new }
+        ensures written_out { WrittenOut self.now.m self.now.d self.now.k result work.new }
     {
         self.mark_lengths(work, low, high);
         let top = h.max(high);
@@ -225,17 +225,21 @@ impl Row {
 
     // The same for the lengths of another row that is written out, which stands in block p, behind the first d - p bytes; `high` is its longest
     // length.
-    fn raise_row(self, work: &mut [u8], s: usize, p: usize, high: usize, h: usize) -> usize
-        requires is_open { Open self.m self.d self.k h work.old }
-        requires earlier { Earlier self.m self.d self.k s p work.old }
+    fn raise_row(&self, work: &mut [u8], s: usize, p: usize, high: usize, h: usize) -> usize
+        requires is_open { Open self.now.m self.now.d self.now.k h work.old }
+        requires earlier { Earlier self.now.m self.now.d self.now.k s p work.old }
         requires le_p { 1 ≤ p }
-        requires other_longest { high ≡ longest_at work.old self.m p s }
-        requires no_run { is_set (lowest_at work.old self.m p s) ≡ false }
-        ensures grown { Grown self.m self.d self.k (λ e. open_has self.m work.old self.k self.d h e || behind_non_empty self.m work.old s self.d p e) work.old work.new }
-        ensures written_out { WrittenOut self.m self.d self.k result work.new }
+        requires other_longest { high ≡ longest_at work.old self.now.m p s }
+        requires no_run { is_set (lowest_at work.old self.now.m p s) ≡ false }
+        ensures grown { Grown self.now.m self.now.d self.now.k (λ e. open_has self.now.m work.old self.now.k self.now.d h e || behind_non_empty self.now.m work.old s self.now.d p e) work.old work.new }
+        ensures written_out { WrittenOut self.now.m self.now.d self.now.k result work.new }
     {
         let to = self.start() + (self.d - p) + 1;
-        let other = Row { d: p, k: s, ..self };
+        let other = Row {
+            d: p,
+            k: s,
+            ..*self
+        };
         let from = other.start() + 1;
         join(work, to, from, p - 1);
         let top = h.max(self.d - p + high);
@@ -245,11 +249,11 @@ impl Row {
     }
 
     // Adds the lengths from `low` to `high` to a row, written out.
-    fn add_marks(self, work: &mut [u8], low: usize, high: usize)
-        requires growing { Growing self.m self.d self.k work.old }
-        requires le_low { (1 ≤ low) × (low ≤ high) × (high ≤ self.d) }
-        requires long { (2 ≤ high) ⊎ (2 ≤ longest_at work.old self.m self.d self.k) }
-        ensures { Grown self.m self.d self.k (λ e. has self.m work.old self.k self.d e || in_run low high e) work.old work.new }
+    fn add_marks(&self, work: &mut [u8], low: usize, high: usize)
+        requires growing { Growing self.now.m self.now.d self.now.k work.old }
+        requires le_low { (1 ≤ low) × (low ≤ high) × (high ≤ self.now.d) }
+        requires long { (2 ≤ high) ⊎ (2 ≤ longest_at work.old self.now.m self.now.d self.now.k) }
+        ensures { Grown self.now.m self.now.d self.now.k (λ e. has self.now.m work.old self.now.k self.now.d e || in_run low high e) work.old work.new }
     {
         let h = self.longest(work);
         self.without_run(work);
@@ -257,25 +261,29 @@ impl Row {
     }
 
     // Adds the lengths of a row that is written out, which stands in block p, behind the first d - p bytes, to a row, written out.
-    fn join_marks(self, work: &mut [u8], s: usize, p: usize)
-        requires growing { Growing self.m self.d self.k work.old }
-        requires earlier { Earlier self.m self.d self.k s p work.old }
+    fn join_marks(&self, work: &mut [u8], s: usize, p: usize)
+        requires growing { Growing self.now.m self.now.d self.now.k work.old }
+        requires earlier { Earlier self.now.m self.now.d self.now.k s p work.old }
         requires le_p { 1 ≤ p }
-        requires no_run { is_set (lowest_at work.old self.m p s) ≡ false }
-        ensures { Grown self.m self.d self.k (λ e. has self.m work.old self.k self.d e || behind_non_empty self.m work.old s self.d p e) work.old work.new }
+        requires no_run { is_set (lowest_at work.old self.now.m p s) ≡ false }
+        ensures { Grown self.now.m self.now.d self.now.k (λ e. has self.now.m work.old self.now.k self.now.d e || behind_non_empty self.now.m work.old s self.now.d p e) work.old work.new }
     {
         let h = self.longest(work);
-        let other = Row { d: p, k: s, ..self };
+        let other = Row {
+            d: p,
+            k: s,
+            ..*self
+        };
         let high = other.longest(work);
         self.without_run(work);
         self.raise_row(work, s, p, high, h);
     }
 
     // Makes a row the run of lengths from `low` to `high`.
-    fn set_run(self, work: &mut [u8], low: usize, high: usize)
-        requires inside { Inside self.m self.d self.k work.old }
-        requires le_low { (1 ≤ low) × (low ≤ high) × (high ≤ self.d) }
-        ensures { Grown self.m self.d self.k (in_run low high) work.old work.new }
+    fn set_run(&self, work: &mut [u8], low: usize, high: usize)
+        requires inside { Inside self.now.m self.now.d self.now.k work.old }
+        requires le_low { (1 ≤ low) × (low ≤ high) × (high ≤ self.now.d) }
+        ensures { Grown self.now.m self.now.d self.now.k (in_run low high) work.old work.new }
     {
         let head = self.head();
         let at = self.start();
@@ -284,9 +292,9 @@ impl Row {
     }
 
     // Makes a row a run again where it has every length up to its longest.
-    fn close_row(self, work: &mut [u8])
-        requires { Growing self.m self.d self.k work.old }
-        ensures { Grown self.m self.d self.k (has self.m work.old self.k self.d) work.old work.new }
+    fn close_row(&self, work: &mut [u8])
+        requires { Growing self.now.m self.now.d self.now.k work.old }
+        ensures { Grown self.now.m self.now.d self.now.k (has self.now.m work.old self.now.k self.now.d) work.old work.new }
     {
         let h = self.longest(work);
         if self.lowest(work, h).is_some() {
@@ -301,33 +309,33 @@ impl Row {
     }
 
     // Adds the lengths from `low` to `high` to a row that they make no run with, or that is none.
-    fn mark_run(self, work: &mut [u8], low: usize, high: usize)
-        requires growing { Growing self.m self.d self.k work.old }
-        requires le_low { (1 ≤ low) × (low ≤ high) × (high ≤ self.d) }
-        requires long { (2 ≤ high) ⊎ (2 ≤ longest_at work.old self.m self.d self.k) }
-        ensures { Grown self.m self.d self.k (λ e. has self.m work.old self.k self.d e || in_run low high e) work.old work.new }
+    fn mark_run(&self, work: &mut [u8], low: usize, high: usize)
+        requires growing { Growing self.now.m self.now.d self.now.k work.old }
+        requires le_low { (1 ≤ low) × (low ≤ high) × (high ≤ self.now.d) }
+        requires long { (2 ≤ high) ⊎ (2 ≤ longest_at work.old self.now.m self.now.d self.now.k) }
+        ensures { Grown self.now.m self.now.d self.now.k (λ e. has self.now.m work.old self.now.k self.now.d e || in_run low high e) work.old work.new }
     {
         self.add_marks(work, low, high);
         self.close_row(work);
     }
 
     // Adds the lengths of a row that is written out, which stands in block p, behind the first d - p bytes.
-    fn mark_row(self, work: &mut [u8], s: usize, p: usize)
-        requires growing { Growing self.m self.d self.k work.old }
-        requires earlier { Earlier self.m self.d self.k s p work.old }
+    fn mark_row(&self, work: &mut [u8], s: usize, p: usize)
+        requires growing { Growing self.now.m self.now.d self.now.k work.old }
+        requires earlier { Earlier self.now.m self.now.d self.now.k s p work.old }
         requires le_p { 1 ≤ p }
-        requires no_run { is_set (lowest_at work.old self.m p s) ≡ false }
-        ensures { Grown self.m self.d self.k (λ e. has self.m work.old self.k self.d e || behind_non_empty self.m work.old s self.d p e) work.old work.new }
+        requires no_run { is_set (lowest_at work.old self.now.m p s) ≡ false }
+        ensures { Grown self.now.m self.now.d self.now.k (λ e. has self.now.m work.old self.now.k self.now.d e || behind_non_empty self.now.m work.old s self.now.d p e) work.old work.new }
     {
         self.join_marks(work, s, p);
         self.close_row(work);
     }
 
     // Adds the lengths from `low` to `high` to a row.
-    fn add_run(self, work: &mut [u8], low: usize, high: usize)
-        requires growing { Growing self.m self.d self.k work.old }
-        requires le_low { (1 ≤ low) × (low ≤ high) × (high ≤ self.d) }
-        ensures { Grown self.m self.d self.k (λ e. has self.m work.old self.k self.d e || in_run low high e) work.old work.new }
+    fn add_run(&self, work: &mut [u8], low: usize, high: usize)
+        requires growing { Growing self.now.m self.now.d self.now.k work.old }
+        requires le_low { (1 ≤ low) × (low ≤ high) × (high ≤ self.now.d) }
+        ensures { Grown self.now.m self.now.d self.now.k (λ e. has self.now.m work.old self.now.k self.now.d e || in_run low high e) work.old work.new }
     {
         let h = self.longest(work);
         if h == 0 {
@@ -350,13 +358,17 @@ impl Row {
     }
 
     // Adds the lengths of record s's row in block p, p > 0, behind the first d - p bytes.
-    fn add_row(self, work: &mut [u8], s: usize, p: usize)
-        requires growing { Growing self.m self.d self.k work.old }
-        requires earlier { Earlier self.m self.d self.k s p work.old }
+    fn add_row(&self, work: &mut [u8], s: usize, p: usize)
+        requires growing { Growing self.now.m self.now.d self.now.k work.old }
+        requires earlier { Earlier self.now.m self.now.d self.now.k s p work.old }
         requires le_p { 1 ≤ p }
-        ensures { Grown self.m self.d self.k (λ e. has self.m work.old self.k self.d e || behind_non_empty self.m work.old s self.d p e) work.old work.new }
+        ensures { Grown self.now.m self.now.d self.now.k (λ e. has self.now.m work.old self.now.k self.now.d e || behind_non_empty self.now.m work.old s self.now.d p e) work.old work.new }
     {
-        let other = Row { d: p, k: s, ..self };
+        let other = Row {
+            d: p,
+            k: s,
+            ..*self
+        };
         let h = other.longest(work);
         if h == 0 {
             return;
@@ -369,14 +381,18 @@ impl Row {
     }
 
     // The same with the empty part, p < d.
-    fn add_row_and_empty(self, work: &mut [u8], s: usize, p: usize)
-        requires growing { Growing self.m self.d self.k work.old }
-        requires earlier { Earlier self.m self.d self.k s p work.old }
-        requires le_p { (1 ≤ p) × (p < self.d) }
-        requires spells_empty { tells self.m work.old s p 0 ≡ true }
-        ensures { Grown self.m self.d self.k (λ e. has self.m work.old self.k self.d e || behind self.m work.old s self.d p e) work.old work.new }
+    fn add_row_and_empty(&self, work: &mut [u8], s: usize, p: usize)
+        requires growing { Growing self.now.m self.now.d self.now.k work.old }
+        requires earlier { Earlier self.now.m self.now.d self.now.k s p work.old }
+        requires le_p { (1 ≤ p) × (p < self.now.d) }
+        requires spells_empty { tells self.now.m work.old s p 0 ≡ true }
+        ensures { Grown self.now.m self.now.d self.now.k (λ e. has self.now.m work.old self.now.k self.now.d e || behind self.now.m work.old s self.now.d p e) work.old work.new }
     {
-        let other = Row { d: p, k: s, ..self };
+        let other = Row {
+            d: p,
+            k: s,
+            ..*self
+        };
         let h = other.longest(work);
         if other.lowest(work, h) == Some(1) {
             self.add_run(work, self.d - p, self.d - p + h);
@@ -387,10 +403,10 @@ impl Row {
     }
 
     // Adds what record s spells of the last p bytes, behind the first d - p bytes.
-    pub fn add(self, work: &mut [u8], s: usize, p: usize)
-        requires growing { Growing self.m self.d self.k work.old }
-        requires earlier { Earlier self.m self.d self.k s p work.old }
-        ensures { Grown self.m self.d self.k (λ e. has self.m work.old self.k self.d e || behind self.m work.old s self.d p e) work.old work.new }
+    pub fn add(&self, work: &mut [u8], s: usize, p: usize)
+        requires growing { Growing self.now.m self.now.d self.now.k work.old }
+        requires earlier { Earlier self.now.m self.now.d self.now.k s p work.old }
+        ensures { Grown self.now.m self.now.d self.now.k (λ e. has self.now.m work.old self.now.k self.now.d e || behind self.now.m work.old s self.now.d p e) work.old work.new }
     {
         if p == self.d {
             self.add_row(work, s, p);
@@ -412,15 +428,19 @@ impl Row {
 
     // Adds the lengths of record s's row in block p, p > 0, behind the first d - p bytes, to a row that is written out; h is its longest length.
     // Returns the new one.
-    fn add_row_marked(self, work: &mut [u8], s: usize, p: usize, h: usize) -> usize
-        requires growing { Growing self.m self.d self.k work.old }
-        requires written_out { WrittenOut self.m self.d self.k h work.old }
-        requires earlier { Earlier self.m self.d self.k s p work.old }
+    fn add_row_marked(&self, work: &mut [u8], s: usize, p: usize, h: usize) -> usize
+        requires growing { Growing self.now.m self.now.d self.now.k work.old }
+        requires written_out { WrittenOut self.now.m self.now.d self.now.k h work.old }
+        requires earlier { Earlier self.now.m self.now.d self.now.k s p work.old }
         requires le_p { 1 ≤ p }
-        ensures grown { Grown self.m self.d self.k (λ e. has self.m work.old self.k self.d e || behind_non_empty self.m work.old s self.d p e) work.old work.new }
-        ensures still_written_out { WrittenOut self.m self.d self.k result work.new }
+        ensures grown { Grown self.now.m self.now.d self.now.k (λ e. has self.now.m work.old self.now.k self.now.d e || behind_non_empty self.now.m work.old s self.now.d p e) work.old work.new }
+        ensures still_written_out { WrittenOut self.now.m self.now.d self.now.k result work.new }
     {
-        let other = Row { d: p, k: s, ..self };
+        let other = Row {
+            d: p,
+            k: s,
+            ..*self
+        };
         let high = other.longest(work);
         if high == 0 {
             return h;
@@ -433,13 +453,13 @@ impl Row {
 
     // Adds what record s spells of the last p bytes, p < d, behind the first d - p bytes, to a row that is written out; h is its longest length.
     // Returns the new one.
-    fn add_marked(self, work: &mut [u8], s: usize, p: usize, h: usize) -> usize
-        requires growing { Growing self.m self.d self.k work.old }
-        requires written_out { WrittenOut self.m self.d self.k h work.old }
-        requires earlier { Earlier self.m self.d self.k s p work.old }
-        requires p_lt_d { p < self.d }
-        ensures grown { Grown self.m self.d self.k (λ e. has self.m work.old self.k self.d e || behind self.m work.old s self.d p e) work.old work.new }
-        ensures still_written_out { WrittenOut self.m self.d self.k result work.new }
+    fn add_marked(&self, work: &mut [u8], s: usize, p: usize, h: usize) -> usize
+        requires growing { Growing self.now.m self.now.d self.now.k work.old }
+        requires written_out { WrittenOut self.now.m self.now.d self.now.k h work.old }
+        requires earlier { Earlier self.now.m self.now.d self.now.k s p work.old }
+        requires p_lt_d { p < self.now.d }
+        ensures grown { Grown self.now.m self.now.d self.now.k (λ e. has self.now.m work.old self.now.k self.now.d e || behind self.now.m work.old s self.now.d p e) work.old work.new }
+        ensures still_written_out { WrittenOut self.now.m self.now.d self.now.k result work.new }
     {
         if work[s] == 0 {
             if p == 0 {
@@ -455,12 +475,12 @@ impl Row {
     }
 
     // The least length of a row that is not below `from`; h is its longest length, and low its lowest where it is a run.
-    fn next_in(self, work: &[u8], h: usize, low: Option<usize>, from: usize) -> Option<usize>
-        requires growing { Growing self.m self.d self.k work.now }
-        requires longest { h ≡ longest_at work.now self.m self.d self.k }
-        requires run { RunTold work.now self.m self.d self.k low }
-        requires le_from { (1 ≤ from) × (from ≤ self.d + 1) }
-        ensures { OfLength self.d (NextLength self.m work.now self.k self.d from) result }
+    fn next_in(&self, work: &[u8], h: usize, low: Option<usize>, from: usize) -> Option<usize>
+        requires growing { Growing self.now.m self.now.d self.now.k work.now }
+        requires longest { h ≡ longest_at work.now self.now.m self.now.d self.now.k }
+        requires run { RunTold work.now self.now.m self.now.d self.now.k low }
+        requires le_from { (1 ≤ from) × (from ≤ self.now.d + 1) }
+        ensures { OfLength self.now.d (NextLength self.now.m work.now self.now.k self.now.d from) result }
     {
         if h < from {
             return None;
@@ -482,10 +502,10 @@ impl Row {
     }
 
     // The least length of a row that is not below `from`.
-    fn next_length(self, work: &[u8], from: usize) -> Option<usize>
-        requires growing { Growing self.m self.d self.k work.now }
-        requires le_from { (1 ≤ from) × (from ≤ self.d + 1) }
-        ensures { OfLength self.d (NextLength self.m work.now self.k self.d from) result }
+    fn next_length(&self, work: &[u8], from: usize) -> Option<usize>
+        requires growing { Growing self.now.m self.now.d self.now.k work.now }
+        requires le_from { (1 ≤ from) × (from ≤ self.now.d + 1) }
+        ensures { OfLength self.now.d (NextLength self.now.m work.now self.now.k self.now.d from) result }
     {
         let h = self.longest(work);
         if h < from {
@@ -496,11 +516,11 @@ impl Row {
     }
 
     // The cut behind c bytes, or the next one where `star` and the row has it.
-    fn skip_reached(self, work: &[u8], c: usize, star: bool) -> usize
-        requires growing { Growing self.m self.d self.k work.now }
-        requires le_c { (1 ≤ c) × (c ≤ self.d + 1) }
-        ensures skipped { Skipped self.m work.now self.k self.d c star result }
-        ensures upper_bound { result ≤ self.d + 1 }
+    fn skip_reached(&self, work: &[u8], c: usize, star: bool) -> usize
+        requires growing { Growing self.now.m self.now.d self.now.k work.now }
+        requires le_c { (1 ≤ c) × (c ≤ self.now.d + 1) }
+        ensures skipped { Skipped self.now.m work.now self.now.k self.now.d c star result }
+        ensures upper_bound { result ≤ self.now.d + 1 }
     {
         if !star {
             return c;
@@ -515,11 +535,11 @@ impl Row {
     }
 
     // The cut behind c bytes, or a later one where those from c on add nothing: the row is full; or `star`, and the row has them.
-    fn skip(self, work: &[u8], c: usize, star: bool) -> usize
-        requires growing { Growing self.m self.d self.k work.now }
-        requires le_c { (1 ≤ c) × (c ≤ self.d + 1) }
-        ensures skipped { Skipped self.m work.now self.k self.d c star result }
-        ensures upper_bound { result ≤ self.d + 1 }
+    fn skip(&self, work: &[u8], c: usize, star: bool) -> usize
+        requires growing { Growing self.now.m self.now.d self.now.k work.now }
+        requires le_c { (1 ≤ c) × (c ≤ self.now.d + 1) }
+        ensures skipped { Skipped self.now.m work.now self.now.k self.now.d c star result }
+        ensures upper_bound { result ≤ self.now.d + 1 }
     {
         let h = self.longest(work);
         if h < c {
@@ -541,13 +561,13 @@ impl Row {
     }
 
     // Where the lengths that a row has up to the last one start: it has each from there on. h is its longest length, and it has each from t on.
-    fn tail(self, work: &[u8], h: usize, t: usize) -> usize
-        requires growing { Growing self.m self.d self.k work.now }
-        requires written_out { WrittenOut self.m self.d self.k h work.now }
-        requires le_t { (1 ≤ t) × (t ≤ self.d + 1) }
-        requires tail { Tail self.m work.now self.k self.d t }
-        ensures still_tail { Tail self.m work.now self.k self.d result }
-        ensures lower_bound { (1 ≤ result) × (result ≤ self.d + 1) }
+    fn tail(&self, work: &[u8], h: usize, t: usize) -> usize
+        requires growing { Growing self.now.m self.now.d self.now.k work.now }
+        requires written_out { WrittenOut self.now.m self.now.d self.now.k h work.now }
+        requires le_t { (1 ≤ t) × (t ≤ self.now.d + 1) }
+        requires tail { Tail self.now.m work.now self.now.k self.now.d t }
+        ensures still_tail { Tail self.now.m work.now self.now.k self.now.d result }
+        ensures lower_bound { (1 ≤ result) × (result ≤ self.now.d + 1) }
     {
         if h < self.d {
             return t;
@@ -562,13 +582,13 @@ impl Row {
     }
 
     // Adds, for each length of record f's row from c on, what record s spells behind it, to a row that is written out.
-    fn mark_cuts(self, work: &mut [u8], f: usize, s: usize, c: usize, star: bool)
-        requires cutting { Cutting self.m self.d self.k f s star work.old }
-        requires no_run { lowest_at work.old self.m self.d self.k ≡ 0 }
-        requires le_c { (1 ≤ c) × (c ≤ self.d + 1) }
-        ensures { Grown self.m self.d self.k (cuts_joined self.m work.old self.d self.k f s c (self.d + 1)) work.old work.new }
+    fn mark_cuts(&self, work: &mut [u8], f: usize, s: usize, c: usize, star: bool)
+        requires cutting { Cutting self.now.m self.now.d self.now.k f s star work.old }
+        requires no_run { lowest_at work.old self.now.m self.now.d self.now.k ≡ 0 }
+        requires le_c { (1 ≤ c) × (c ≤ self.now.d + 1) }
+        ensures { Grown self.now.m self.now.d self.now.k (cuts_joined self.now.m work.old self.now.d self.now.k f s c (self.now.d + 1)) work.old work.new }
     {
-        let first = Row { k: f, ..self };
+        let first = Row { k: f, ..*self };
         let mut h = self.longest(work);
         let high = first.longest(work);
         let low = first.lowest(work, high);
@@ -586,9 +606,9 @@ impl Row {
     }
 
     // The longest length that record k spells of the last d bytes, 0 for the empty part or none.
-    fn high_behind(self, work: &[u8]) -> usize
-        requires { Inside self.m self.d self.k work.now }
-        ensures { (result ≡ cond (leb self.d 0) 0 (longest_at work.now self.m self.d self.k)) × (result < 256) }
+    fn high_behind(&self, work: &[u8]) -> usize
+        requires { Inside self.now.m self.now.d self.now.k work.now }
+        ensures { (result ≡ cond (leb self.now.d 0) 0 (longest_at work.now self.now.m self.now.d self.now.k)) × (result < 256) }
     {
         if self.d == 0 {
             return 0;
@@ -598,12 +618,12 @@ impl Row {
 
     // The lowest length that record k spells of the last d bytes, the empty part included, where its lengths are a run; h is the longest. It
     // spells some part.
-    fn low_behind(self, work: &[u8], h: usize) -> Option<usize>
-        requires inside { Inside self.m self.d self.k work.now }
-        requires shaped { 1 ≤ self.d → Shaped self.m self.d self.k work.now }
-        requires longest { h ≡ cond (leb self.d 0) 0 (longest_at work.now self.m self.d self.k) }
-        requires spells_empty { h ≡ 0 → tells self.m work.now self.k self.d 0 ≡ true }
-        ensures { IfSome result (λ low. LowBehind self.m work.now self.k self.d h low) }
+    fn low_behind(&self, work: &[u8], h: usize) -> Option<usize>
+        requires inside { Inside self.now.m self.now.d self.now.k work.now }
+        requires shaped { 1 ≤ self.now.d → Shaped self.now.m self.now.d self.now.k work.now }
+        requires longest { h ≡ cond (leb self.now.d 0) 0 (longest_at work.now self.now.m self.now.d self.now.k) }
+        requires spells_empty { h ≡ 0 → tells self.now.m work.now self.now.k self.now.d 0 ≡ true }
+        ensures { IfSome result (λ low. LowBehind self.now.m work.now self.now.k self.now.d h low) }
     {
         if h == 0 {
             return Some(0);
@@ -619,19 +639,19 @@ impl Row {
     }
 
     // The lengths from `low` to `high`, and with them what record k spells behind each cut from c on up to `end`, as long as they are a run.
-    fn reach(self, work: &[u8], c: usize, end: usize, low: usize, high: usize) -> Run
-        requires inside { Inside self.m self.d self.k work.now }
-        requires second_shape { (p : ℕ) → 1 ≤ p → p < self.d → Shaped self.m p self.k work.now }
-        requires le_c { (1 ≤ c) × (c ≤ self.d + 1) × (end ≤ self.d) }
-        requires le_low { (1 ≤ low) × (high ≤ self.d) × (1 ≤ high → low ≤ high) }
-        ensures { Reached self.m work.now self.d self.k c end low high result.low result.high result.next }
+    fn reach(&self, work: &[u8], c: usize, end: usize, low: usize, high: usize) -> Run
+        requires inside { Inside self.now.m self.now.d self.now.k work.now }
+        requires second_shape { (p : ℕ) → 1 ≤ p → p < self.now.d → Shaped self.now.m p self.now.k work.now }
+        requires le_c { (1 ≤ c) × (c ≤ self.now.d + 1) × (end ≤ self.now.d) }
+        requires le_low { (1 ≤ low) × (high ≤ self.now.d) × (1 ≤ high → low ≤ high) }
+        ensures { Reached self.now.m work.now self.now.d self.now.k c end low high result.low result.high result.next }
     {
         let mut bottom = low;
         let mut top = high;
         for i in c..end + 1 {
             let rest = Row {
                 d: self.d - i,
-                ..self
+                ..*self
             };
             let h = rest.high_behind(work);
             if h == 0 && work[self.k] == 0 {
@@ -669,12 +689,12 @@ impl Row {
     }
 
     // The last of the lengths from c on that a row has one after the other, as far as its form shows; it has c.
-    fn run_end(self, work: &[u8], c: usize) -> usize
-        requires growing { Growing self.m self.d self.k work.now }
-        requires le_c { (1 ≤ c) × (c ≤ self.d) }
-        requires held { has self.m work.now self.k self.d c ≡ true }
-        ensures run { (i : ℕ) → c ≤ i → i ≤ result → has self.m work.now self.k self.d i ≡ true }
-        ensures upper_bound { result ≤ self.d }
+    fn run_end(&self, work: &[u8], c: usize) -> usize
+        requires growing { Growing self.now.m self.now.d self.now.k work.now }
+        requires le_c { (1 ≤ c) × (c ≤ self.now.d) }
+        requires held { has self.now.m work.now self.now.k self.now.d c ≡ true }
+        ensures run { (i : ℕ) → c ≤ i → i ≤ result → has self.now.m work.now self.now.k self.now.d i ≡ true }
+        ensures upper_bound { result ≤ self.now.d }
     {
         let h = self.longest(work);
         match self.lowest(work, h) {
@@ -685,19 +705,19 @@ impl Row {
 
     // Adds, for the lengths of record f's row from c on, what record s spells behind them, as long as the row stays a run. Returns the first
     // length that was not looked at.
-    fn extend(self, work: &mut [u8], f: usize, s: usize, c: usize) -> usize
-        requires cutting { Cutting self.m self.d self.k f s false work.old }
-        requires le_c { (1 ≤ c) × (c ≤ self.d) }
-        requires held { has self.m work.old f self.d c ≡ true }
-        ensures grown { Grown self.m self.d self.k (cuts_joined self.m work.old self.d self.k f s c result) work.old work.new }
-        ensures lower_bound { (c ≤ result) × (result ≤ self.d + 1) }
+    fn extend(&self, work: &mut [u8], f: usize, s: usize, c: usize) -> usize
+        requires cutting { Cutting self.now.m self.now.d self.now.k f s false work.old }
+        requires le_c { (1 ≤ c) × (c ≤ self.now.d) }
+        requires held { has self.now.m work.old f self.now.d c ≡ true }
+        ensures grown { Grown self.now.m self.now.d self.now.k (cuts_joined self.now.m work.old self.now.d self.now.k f s c result) work.old work.new }
+        ensures lower_bound { (c ≤ result) × (result ≤ self.now.d + 1) }
     {
         let high = self.longest(work);
         let Some(low) = self.lowest(work, high) else {
             return c;
         };
-        let first = Row { k: f, ..self };
-        let second = Row { k: s, ..self };
+        let first = Row { k: f, ..*self };
+        let second = Row { k: s, ..*self };
         let end = first.run_end(work, c);
         let run = second.reach(work, c, end, low, high);
         if run.high == 0 {
@@ -709,12 +729,12 @@ impl Row {
 
     // Adds, for the length c of record f's row and as many of those behind it as one form of the row allows, what record s spells behind them.
     // Returns the first length that was not looked at.
-    fn add_some_cuts(self, work: &mut [u8], f: usize, s: usize, c: usize, star: bool) -> usize
-        requires cutting { Cutting self.m self.d self.k f s star work.old }
-        requires le_c { (1 ≤ c) × (c ≤ self.d) }
-        requires held { has self.m work.old f self.d c ≡ true }
-        ensures grown { Grown self.m self.d self.k (cuts_joined self.m work.old self.d self.k f s c result) work.old work.new }
-        ensures lower_bound { (c < result) × (result ≤ self.d + 1) }
+    fn add_some_cuts(&self, work: &mut [u8], f: usize, s: usize, c: usize, star: bool) -> usize
+        requires cutting { Cutting self.now.m self.now.d self.now.k f s star work.old }
+        requires le_c { (1 ≤ c) × (c ≤ self.now.d) }
+        requires held { has self.now.m work.old f self.now.d c ≡ true }
+        ensures grown { Grown self.now.m self.now.d self.now.k (cuts_joined self.now.m work.old self.now.d self.now.k f s c result) work.old work.new }
+        ensures lower_bound { (c < result) × (result ≤ self.now.d + 1) }
     {
         let r = self.extend(work, f, s, c);
         if c < r {
@@ -731,11 +751,11 @@ impl Row {
     }
 
     // Adds, for each length c of record f's row, what record s spells behind c bytes.
-    fn add_all_cuts(self, work: &mut [u8], f: usize, s: usize, star: bool)
-        requires { Cutting self.m self.d self.k f s star work.old }
-        ensures { Grown self.m self.d self.k (cuts_joined self.m work.old self.d self.k f s 1 (self.d + 1)) work.old work.new }
+    fn add_all_cuts(&self, work: &mut [u8], f: usize, s: usize, star: bool)
+        requires { Cutting self.now.m self.now.d self.now.k f s star work.old }
+        ensures { Grown self.now.m self.now.d self.now.k (cuts_joined self.now.m work.old self.now.d self.now.k f s 1 (self.now.d + 1)) work.old work.new }
     {
-        let first = Row { k: f, ..self };
+        let first = Row { k: f, ..*self };
         let mut next = first.next_length(work, 1);
         while let Some(c) = next {
             let r = self.add_some_cuts(work, f, s, c, star);
@@ -745,11 +765,11 @@ impl Row {
     }
 
     // Adds, for each length c of record f's row, what record s spells behind c bytes. Most rows have no length, or one byte alone.
-    pub fn add_cuts(self, work: &mut [u8], f: usize, s: usize, star: bool)
-        requires { Cutting self.m self.d self.k f s star work.old }
-        ensures { Grown self.m self.d self.k (cuts_joined self.m work.old self.d self.k f s 1 (self.d + 1)) work.old work.new }
+    pub fn add_cuts(&self, work: &mut [u8], f: usize, s: usize, star: bool)
+        requires { Cutting self.now.m self.now.d self.now.k f s star work.old }
+        ensures { Grown self.now.m self.now.d self.now.k (cuts_joined self.now.m work.old self.now.d self.now.k f s 1 (self.now.d + 1)) work.old work.new }
     {
-        let first = Row { k: f, ..self };
+        let first = Row { k: f, ..*self };
         let h = first.longest(work);
         if h == 0 {
             return;

@@ -14,8 +14,8 @@ pub bounds-work-s : goal.bounds-work-s
 bounds-work-s c =
     let a = c.args in
     let known = c.requires.earlier.known in
-    let fits = size-grows a.self.m 0 a.self.d (omega arith) in
-    omega (arith, c.requires.growing.inside.room, head-inside a.self.m 0 a.s known, first_head a.self.m a.s)
+    let fits = size-grows a.self.now.m 0 a.self.now.d (omega arith) in
+    omega (arith, c.requires.growing.inside.room, head-inside a.self.now.m 0 a.s known, first_head a.self.now.m a.s)
 
 pub returns-then-p-eq0 : goal.returns-then-p-eq0
 returns-then-p-eq0 c = add_nothing _ _ _ _ _ _ c.requires.growing c.if-p-eq0.true c.if-work-s-eq0.true

@@ -20,8 +20,8 @@ lowest-requires-clause-inside c =
 pub mark_row-requires-clause-no_run : goal.mark_row-requires-clause-no_run
 mark_row-requires-clause-no_run c =
     let a = c.args in
-    let low : lowest_at a.work.now a.self.m a.p a.s ≡ 0 = c.in_default.ensures in
-    clear-byte (lowest_at a.work.now a.self.m a.p a.s) low
+    let low : lowest_at a.work.now a.self.now.m a.p a.s ≡ 0 = c.in_default.ensures in
+    clear-byte (lowest_at a.work.now a.self.now.m a.p a.s) low
 
 pub returns : goal.returns
 returns c =

@@ -27,8 +27,8 @@ raise_row-requires-clause-is_open c =
 pub raise_row-requires-clause-no_run : goal.raise_row-requires-clause-no_run
 raise_row-requires-clause-no_run c =
     let a = c.args in
-    let low : lowest_at a.work.now a.self.m a.p a.s ≡ 0 = c.in_default.ensures in
-    clear-byte (lowest_at a.work.now a.self.m a.p a.s) low
+    let low : lowest_at a.work.now a.self.now.m a.p a.s ≡ 0 = c.in_default.ensures in
+    clear-byte (lowest_at a.work.now a.self.now.m a.p a.s) low
 
 pub returns-in_default-clause-grown : goal.returns-in_default-clause-grown
 returns-in_default-clause-grown c =

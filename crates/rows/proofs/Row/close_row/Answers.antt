@@ -10,7 +10,7 @@ all_set-requires c = omega (arith, c.start-at.ensures, c.min-end.ensures, row-th
 
 pub set_run-requires-clause-le_low : goal.set_run-requires-clause-le_low
 set_run-requires-clause-le_low c =
-    let long = no-run-long c.args.work.now c.args.self.m c.args.self.d c.args.self.k (told-no_run _ _ _ _ _ c.lowest.ensures c.if-is_some.ensures) in
+    let long = no-run-long c.args.work.now c.args.self.now.m c.args.self.now.d c.args.self.now.k (told-no_run _ _ _ _ _ c.lowest.ensures c.if-is_some.ensures) in
     (omega arith, omega (arith, c.longest-h.ensures.0), omega (arith, c.longest-h.ensures.0, c.requires.shape.small))
 
 pub returns : goal.returns

@@ -4,4 +4,4 @@ use Rattle.rows.proofs.Places.{head-formula}
 use Rattle.rows.proofs.Row.head.Goals as goal
 
 pub returns : goal.returns
-returns c = head-formula c.args.self.m c.args.self.d c.args.self.k
+returns c = head-formula c.args.self.now.m c.args.self.now.d c.args.self.now.k

@@ -13,6 +13,6 @@ put-requires c = omega (arith, row-there c.requires.inside)
 
 pub returns-then-low-end : goal.returns-then-low-end
 returns-then-low-end c =
-    marked-put c.args.self.m c.args.self.d c.args.self.k c.args.low c.args.high _ c.requires.le_low
+    marked-put c.args.self.now.m c.args.self.now.d c.args.self.now.k c.args.low c.args.high _ c.requires.le_low
     (c.start.result + c.args.low) c.min-end.result _ (omega arith) c.min-end.ensures c.if-low-end.true
     c.put.ensures

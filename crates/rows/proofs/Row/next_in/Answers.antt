@@ -17,7 +17,7 @@ returns-in-Some c =
 
 pub next_set-requires-clause-end_in_bounds : goal.next_set-requires-clause-end_in_bounds
 next_set-requires-clause-end_in_bounds c =
-    omega (arith, c.requires.growing.inside.room, c.requires.growing.inside.short, c.requires.longest, row_inside c.args.self.m c.args.self.d c.args.self.k c.requires.growing.inside.known)
+    omega (arith, c.requires.growing.inside.room, c.requires.growing.inside.short, c.requires.longest, row_inside c.args.self.now.m c.args.self.now.d c.args.self.now.k c.requires.growing.inside.known)
 
 pub returns-in-Some-next_set : goal.returns-in-Some-next_set
 returns-in-Some-next_set c =

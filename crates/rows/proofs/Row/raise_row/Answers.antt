@@ -25,7 +25,7 @@ bounds-work-at c =
 
 pub returns : goal.returns
 returns c =
-    let to = c.start.result + (c.args.self.d - c.args.p) + 1 in
+    let to = c.start.result + (c.args.self.now.d - c.args.p) + 1 in
     let from = c.start-from.result + 1 in
     let x = marks-joined c.requires.is_open c.requires.earlier c.requires.le_p c.requires.no_run _ to from _ _ c.requires.other_longest (omega arith) (omega arith)
     c.join.ensures c.head-at.ensures c.max-top.ensures in record { grown = x.0; written_out = x.1 }

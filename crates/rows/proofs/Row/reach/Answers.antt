@@ -38,7 +38,7 @@ low_behind-requires-clause-spells_empty c =
 pub returns-then-bottom-i : goal.returns-then-bottom-i
 returns-then-bottom-i c =
     let q = c.loop-i.invariant.reached in
-    let b : c.loop-i.i + c.high_behind-h.result ≤ c.args.self.d =
+    let b : c.loop-i.i + c.high_behind-h.result ≤ c.args.self.now.d =
     omega (arith, high_small _ _ _ _ _ c.high_behind-h.ensures.0 (λ x. c.requires.second_shape _ x (omega (arith, q.not_before)))) in
     reached-full _ _ _ _ _ _ _ _ _ _ _ (reached-more _ _ _ _ _ _ _ _ _ _ _ q c.loop-i-test.true c.requires.le_c.2 _ _ b
     c.in-Some.ensures _ c.in-Some-join_low.ensures _ c.max-top.ensures) c.if-top-self.true c.if-bottom-i.true
@@ -46,7 +46,7 @@ returns-then-bottom-i c =
 pub loop-i-preserved : goal.loop-i-preserved
 loop-i-preserved c =
     let q = c.loop-i.invariant.reached in
-    let b : c.loop-i.i + c.high_behind-h.result ≤ c.args.self.d =
+    let b : c.loop-i.i + c.high_behind-h.result ≤ c.args.self.now.d =
     omega (arith, high_small _ _ _ _ _ c.high_behind-h.ensures.0 (λ x. c.requires.second_shape _ x (omega (arith, q.not_before)))) in record {
       reached = reached-more _ _ _ _ _ _ _ _ _ _ _ q c.loop-i-test.true c.requires.le_c.2 _ _ b
           c.in-Some.ensures _ c.in-Some-join_low.ensures _ c.max-top.ensures;

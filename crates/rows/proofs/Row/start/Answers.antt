@@ -4,4 +4,4 @@ use Rattle.rows.proofs.Places.{row-formula}
 use Rattle.rows.proofs.Row.start.Goals as goal
 
 pub returns : goal.returns
-returns c = row-formula c.args.self.m c.args.self.d c.args.self.k
+returns c = row-formula c.args.self.now.m c.args.self.now.d c.args.self.now.k
