@@ -118,34 +118,22 @@ fn fill_seq_of_star(table: &Rules, rest: &[u8], work: &mut [u8], k: usize)
     rows::add_cuts(work, m, d, k, base, k, false);
 }
 
-// The row of a Seq whose first child spells the empty line: the second child's row, and for each part of at least one byte that the first
-// child spells, the second child's row behind it.
-fn fill_seq_with_empty(table: &Rules, rest: &[u8], work: &mut [u8], k: usize)
+// The row of another Seq: the second child's row, if the first child spells the empty line, and for each part of at least one byte that the
+// first child spells, the second child's row behind it.
+fn fill_seq_of_other(table: &Rules, rest: &[u8], work: &mut [u8], k: usize)
     requires ready { Ready table.now rest.now k work.old }
     requires kind { kind_at table.now k ≡ 4 }
-    requires child { spells (exp_of table.now (a_at table.now k)) [] ≡ true }
     ensures { Made table.now rest.now k work.old work.new }
 {
     let m = table.count();
     let d = rest.len();
-    let b = table.b_at(k) as usize;
-    rows::add(work, m, d, k, b, d);
-    let star = table.kind_at(b) == Kind::Star;
-    rows::add_cuts(work, m, d, k, table.a_at(k) as usize, b, star);
-}
-
-// The row of another Seq: for each part that the first child spells, the second child's row behind it.
-fn fill_seq_without_empty(table: &Rules, rest: &[u8], work: &mut [u8], k: usize)
-    requires ready { Ready table.now rest.now k work.old }
-    requires kind { kind_at table.now k ≡ 4 }
-    requires child { spells (exp_of table.now (a_at table.now k)) [] ≡ false }
-    ensures { Made table.now rest.now k work.old work.new }
-{
-    let m = table.count();
-    let d = rest.len();
+    let a = table.a_at(k) as usize;
     let b = table.b_at(k) as usize;
     let star = table.kind_at(b) == Kind::Star;
-    rows::add_cuts(work, m, d, k, table.a_at(k) as usize, b, star);
+    if work[a] != 0 {
+        rows::add(work, m, d, k, b, d);
+    }
+    rows::add_cuts(work, m, d, k, a, b, star);
 }
 
 // The row of a Seq.
@@ -154,16 +142,11 @@ fn fill_seq(table: &Rules, rest: &[u8], work: &mut [u8], k: usize)
     requires kind { kind_at table.now k ≡ 4 }
     ensures { Made table.now rest.now k work.old work.new }
 {
-    let a = table.a_at(k) as usize;
-    if table.kind_at(a) == Kind::Star {
+    if table.kind_at(table.a_at(k) as usize) == Kind::Star {
         fill_seq_of_star(table, rest, work, k);
-        return;
+    } else {
+        fill_seq_of_other(table, rest, work, k);
     }
-    if work[a] == 0 {
-        fill_seq_without_empty(table, rest, work, k);
-        return;
-    }
-    fill_seq_with_empty(table, rest, work, k);
 }
 
 // The row of a Star: for each part of at least one byte that the child spells, its own row behind it; that of a Star of a Star is the child's.

@@ -181,6 +181,7 @@ impl LiveLine {
     }
 
     // Add, by value: the live line with the byte at its end, and the facts of that line.
+    #[tactic(auto, unfolding(crate::specs::Calls::add_leaves))]
     pub fn added(self, byte: u8, work: &mut [u8]) -> Step<Facts>
         ensures { Answered (add_says self byte (length work.old)) self (lengthened self byte) result.line result.answer work.old work.new }
     {
@@ -190,6 +191,7 @@ impl LiveLine {
     }
 
     // Take back, by value: the live line without its last byte, and the facts of that line.
+    #[tactic(auto, unfolding(crate::specs::Calls::take_back_leaves))]
     pub fn taken_back(self, work: &mut [u8]) -> Step<Facts>
         ensures { Answered (take_back_says self (length work.old)) self (shortened self) result.line result.answer work.old work.new }
     {

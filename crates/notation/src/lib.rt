@@ -291,7 +291,10 @@ fn take_close(walk: Walk, stack: &[Marks; 4096], out: &mut [u8]) -> Option<Walk>
         → Shows fs l m i walk stack.now entry out.old
         → Took (closed_in fs l m i) result stack.now entry out.new }
 {
-    let depth = walk.depth.checked_sub(1)?;
+    if walk.depth == 0 {
+        return None;
+    }
+    let depth = walk.depth - 1;
     if walk.item != Item::Absent {
         let count = end_row(walk, out);
         return Some(Walk {

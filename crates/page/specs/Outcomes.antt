@@ -24,13 +24,14 @@ abbrev pub at_line : ℕ → Said → Said
 at_line i (gives n) = gives n
 at_line i (refuses n d) = refuses n i
 
--- every case of the answer in the paper's numbers
+-- every refusal in the paper's numbers
 abbrev pub refusal_says : PageRefusal → PageSaid
 refusal_says (LineRules why) = names line_rules (refusal why)
 refusal_says (PageRules why) = names page_rules (refusal why)
 refusal_says (OneLine why i) = names one_line (at_line i (refusal why))
 refusal_says (WholePage why) = names the_page (refusal why)
 
+-- and every answer
 abbrev pub outcome_says : Result ℕ PageRefusal → PageSaid
 outcome_says (Ok n) = names the_page (gives n)
 outcome_says (Err why) = refusal_says why
