@@ -182,9 +182,7 @@ fn d_written() -> [u8; 52]
 fn show_answer(rt: &impl Print, answer: Result<usize, Refusal>) -> io::Result<()> {
     match answer {
         Ok(n) => print!(rt; " gives {n}"),
-        Err(why) => {
-            print!(rt; " refuses {} {}", why.number(), why.detail())
-        }
+        Err(why) => { print!(rt; " refuses {} {}", why.number(), why.detail()) }
     }
 }
 

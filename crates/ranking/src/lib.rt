@@ -85,12 +85,7 @@ fn compare_fitting(
 }
 
 // Compare: 0 if two readings are the same, 1 if the first ranks ahead, 2 if the second does.
-pub fn compare(
-    table: &[u8],
-    start: usize,
-    first: &[u8],
-    second: &[u8],
-) -> Result<usize, Refusal>
+pub fn compare(table: &[u8], start: usize, first: &[u8], second: &[u8]) -> Result<usize, Refusal>
     ensures answer { says result ≡ compare_says table.now start first.now second.now }
     ensures precedence { (o : OneLine table.now start first.now second.now)
         → AnswersPrecedence (λ x. says result ≡ x) first.now second.now o.first.value o.second.value }

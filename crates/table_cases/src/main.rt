@@ -8,9 +8,7 @@ use std::io;
 fn show(rt: &impl Print, bytes: &[u8]) -> io::Result<()> {
     match table::check(bytes) {
         Ok(m) => println!(rt; "{m}"),
-        Err(why) => {
-            println!(rt; "refused {} {}", why.number(), why.detail())
-        }
+        Err(why) => { println!(rt; "refused {} {}", why.number(), why.detail()) }
     }
 }
 

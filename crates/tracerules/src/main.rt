@@ -71,9 +71,7 @@ fn respond(input: &[u8], out: &mut [u8]) -> Reply
     let text = text_of(input);
     match notation::compile(text, out) {
         Ok(count) => Reply::Table(4 * count),
-        Err(why) => {
-            Reply::Complaint(put_refused(out, why.number() as u64, text))
-        }
+        Err(why) => Reply::Complaint(put_refused(out, why.number() as u64, text)),
     }
 }
 

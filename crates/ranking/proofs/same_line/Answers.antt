@@ -12,6 +12,9 @@ spell_into-n-requires c = omega (arith, c.requires.short_second)
 
 pub returns : goal.returns
 returns c =
-    rw (c.eq.ensures, front _ _ _ _ c.spell_into-m.ensures.size c.spell_into-m.ensures.buffer,
-        front _ _ _ _ c.spell_into-n.ensures.size c.spell_into-n.ensures.buffer)
+    rw (
+      c.eq.ensures,
+      front _ _ _ _ c.spell_into-m.ensures.size c.spell_into-m.ensures.buffer,
+      front _ _ _ _ c.spell_into-n.ensures.size c.spell_into-n.ensures.buffer,
+    )
     (pointwise-same (spelled c.args.first.now) (spelled c.args.second.now))
