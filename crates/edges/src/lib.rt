@@ -170,14 +170,12 @@ fn all_marked(line: &[u8], words: &[u64; 4]) -> bool
     ensures { result ≡ false → Unmarked line.now words.now }
 {
     let n = line.len();
-    let mut i = 0;
-    while 2 <= n - i {
-        if from_mark(words, line[i]) & from_mark(words, line[i + 1]) & 1 == 0 {
+    for i in 0..n / 2 {
+        if from_mark(words, line[2 * i]) & from_mark(words, line[2 * i + 1]) & 1 == 0 {
             return false;
         }
-        i += 2;
     }
-    i == n || from_mark(words, line[i]) & 1 != 0
+    n % 2 == 0 || from_mark(words, line[n - 1]) & 1 != 0
 }
 
 // Whether record k may spell the line, by the line's first byte, its last byte, and each of its bytes: where the answer is no, it does not.

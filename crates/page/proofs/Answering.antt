@@ -23,7 +23,8 @@ use Rattle.page.specs.Entries.{Rules}
 use Rattle.page.specs.Outcomes.{Who, the_page, line_rules, page_rules, one_line, PageSaid, names, at_line, refusal_says, outcome_says}
 use Rattle.page.specs.Pages.{Sizes, classes_of, rules_say, page_says, page_leaves, keeps_scratch, PageTaken}
 use Rattle.page.specs.Steps.{lines_then, LinesRead}
-use Rattle.page.proofs.Exits.{Exit, Renamed, passed_on, mapped_ok}
+use Rattle.table.proofs.Exits.{passed_on}
+use Rattle.page.proofs.Exits.{Exit, Renamed, mapped_ok}
 use Rattle.page.proofs.Meaning.{rules-counted, said_all, page-refused, page-said, page-left, page-line-rules, page-page-rules, page-many, page-lines-said}
 
 -- a refusal has one who is named, a number and a detail

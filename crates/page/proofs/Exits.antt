@@ -1,16 +1,13 @@
--- What a call answers where it passes a refusal on, and what `map_err` was given.
+-- What `map_err` was given.
 -- Assumes nothing.
 use mathlib.Core.Path.{◌≡◌, refl}
 use Rattle.std.specs.Prelude.{Result, Ok, Err, IsErr}
 use Rattle.std.specs.Result.{IsErrAnd, MatchResult}
 use Rattle.std.proofs.lemmas.Result.{err_from_is_err_and}
 
--- the exit of a `?` gives the callee's refusal
+-- what the exit of a `?` ensures
 abbrev pub Exit : {A E : Type 0} → Result A E → E → Type 0
 Exit r why = IsErr r × IsErrAnd r (λ e. e ≡ why)
-
-pub passed_on : {A E : Type 0} (r : Result A E) (why : E) → Exit r why → r ≡ Err why
-passed_on r why h = let p = err_from_is_err_and r h.1 in rw (p.1, p.2) refl
 
 -- a refusal that goes by another name
 abbrev pub Renamed : {A E D : Type 0} → (E → D) → Result A E → D → Type 0

@@ -32,13 +32,11 @@ fn rank_records(first: &[u8], second: &[u8]) -> Ordering
         ≡ verdict_number (rank_records (records_of first.now) (records_of second.now)) }
 {
     let n = first.len().min(second.len());
-    let mut at = 0;
-    while Place::RECORD <= n - at {
-        let order = rank_record(first, second, at);
+    for i in 0..n / Place::RECORD {
+        let order = rank_record(first, second, Place::RECORD * i);
         if order != Ordering::Equal {
             return order;
         }
-        at += Place::RECORD;
     }
     Ordering::Equal
 }

@@ -280,17 +280,13 @@ pub fn spell_into(reading: &[u8], out: &mut [u8]) -> usize
     ensures size { result ≡ length (spelled reading.now) }
     ensures buffer { out.new ≡ spelled reading.now ++ drop (length (spelled reading.now)) out.old }
 {
-    let n = reading.len();
-    let mut at = 0;
     let mut size = 0;
-    while Place::RECORD <= n - at {
-        let kind = record_kind(reading, at);
-        let argument = record_argument(reading, at);
-        if kind == ValueKind::Byte.number() {
-            out[size] = argument;
+    for i in 0..reading.len() / Place::RECORD {
+        let at = Place::RECORD * i;
+        if record_kind(reading, at) == ValueKind::Byte.number() {
+            out[size] = record_argument(reading, at);
             size += 1;
         }
-        at += Place::RECORD;
     }
     size
 }

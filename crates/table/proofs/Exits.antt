@@ -7,8 +7,8 @@ use Rattle.std.specs.Option.{ok_or}
 use Rattle.std.proofs.lemmas.Result.{err_from_is_err_and}
 use Rattle.table.specs.declared.Refusal.{Refusal}
 
--- the exit of a `?` gives the callee's refusal
-pub passed_on : {A : Type 0} (r : Result A Refusal) (why : Refusal) → IsErr r × IsErrAnd r (λ e. e ≡ why) → r ≡ Err why
+-- the exit of a `?` gives the callee's error
+pub passed_on : {A E : Type 0} (r : Result A E) (why : E) → IsErr r × IsErrAnd r (λ e. e ≡ why) → r ≡ Err why
 passed_on r why h = let p = err_from_is_err_and r h.1 in rw (p.1, p.2) refl
 
 -- an option with a refusal for none

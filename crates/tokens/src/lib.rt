@@ -91,16 +91,13 @@ fn list_records(table: &Rules, reading: &[u8], out: &mut [u8], writing: bool) ->
     ensures buffer { out.new
         ≡ wrote writing out.old 0 (token_bytes (list_reading table.now reading.now)) }
 {
-    let n = reading.len();
-    let mut at = 0;
     let mut listing = Listing {
         offset: 0,
         end: 0,
         to: 0,
     };
-    while Place::RECORD <= n - at {
-        listing = list_record(table, reading, at, listing, out, writing);
-        at += Place::RECORD;
+    for i in 0..reading.len() / Place::RECORD {
+        listing = list_record(table, reading, Place::RECORD * i, listing, out, writing);
     }
     listing.to
 }

@@ -3,7 +3,8 @@
 use mathlib.Core.Path.{refl}
 use Rattle.std.proofs.Common.{rules}
 use Rattle.page.specs.declared.PageRefusal.TheVariants.{OneLine}
-use Rattle.page.proofs.Exits.{passed_on, mapped_err, mapped_ok}
+use Rattle.table.proofs.Exits.{passed_on}
+use Rattle.page.proofs.Exits.{mapped_err, mapped_ok}
 use Rattle.page.proofs.Going.{lengths-kept, going-first, prior-within, class-room, going-refused, going_on}
 use Rattle.page.proofs.take_lines.Goals as goal
 

@@ -1,10 +1,8 @@
--- `ranking::rank_records` meets its contract. The loop's invariant: the records so far agree. It falls with the bytes left. Assumes nothing.
-use Prim.Native.Nat.{◌≤◌, ◌-◌}
+-- `ranking::rank_records` meets its contract. The loop's invariant: the first i records agree. Assumes nothing.
+use Rattle.std.proofs.Common.{◌*◌}
+use Rattle.reading.specs.Codec.{record_size}
 use Rattle.ranking.proofs.Verdicts.{Agreeing}
 use Rattle.ranking.proofs.rank_records.Given as goal
 
-abbrev pub invariant-loop-at : goal.invariant-loop-at
-invariant-loop-at l = (l.at ≤ l.n) × Agreeing l.first l.second l.at
-
-abbrev pub decreases-loop-at : goal.decreases-loop-at
-decreases-loop-at l = l.n - l.at
+abbrev pub invariant-loop-i : goal.invariant-loop-i
+invariant-loop-i l = Agreeing l.first l.second (record_size * l.i)

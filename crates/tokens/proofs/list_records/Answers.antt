@@ -1,21 +1,22 @@
--- `tokens::list_records` meets its contract. The loop's invariant is Walking: the tokens of the records before the place are listed. The measure
--- is what is left of the reading. Assumes nothing.
+-- `tokens::list_records` meets its contract. Assumes nothing.
 use native.Mathlib.Omega.{arith}
-use Rattle.tokens.proofs.Walks.{walk_start, walk-given, walk_step, walk_end, walk-length}
+use mathlib.Core.Path.{◌≡◌}
+use Prim.Native.Nat.{◌+◌, ◌*◌}
+use Rattle.reading.specs.Codec.{record_size}
+use Rattle.tokens.proofs.Walks.{walk_start, walk-given, walk_step, walk_end}
 use Rattle.tokens.proofs.list_records.Goals as goal
 
-pub loop-at-init : goal.loop-at-init
-loop-at-init c = walk_start c.requires (omega arith) (omega arith) (omega arith)
+pub loop-i-init : goal.loop-i-init
+loop-i-init c = walk_start c.requires (omega arith) (omega arith) (omega arith)
 
 pub list_record-listing-requires : goal.list_record-listing-requires
 list_record-listing-requires c =
-    record { placed = omega (arith, c.loop-at.invariant.placed); given = walk-given c.loop-at.invariant (omega (arith, c.loop-at.invariant.placed)) }
+    record { placed = omega (arith, c.loop-i-test.true); given = walk-given c.loop-i.invariant (omega (arith, c.loop-i-test.true)) }
 
-pub loop-at-preserved : goal.loop-at-preserved
-loop-at-preserved c = walk_step c.loop-at.invariant (omega (arith, c.loop-at.invariant.placed)) c.list_record-listing.ensures
-
-pub shape_of-out : goal.shape_of-out
-shape_of-out c = walk-length c.loop-at.invariant
+pub loop-i-preserved : goal.loop-i-preserved
+loop-i-preserved c =
+    let next : record_size * (c.loop-i.i + 1) ≡ record_size * c.loop-i.i + record_size = omega arith in
+    rw next (walk_step c.loop-i.invariant (omega (arith, c.loop-i-test.true)) c.list_record-listing.ensures)
 
 pub returns : goal.returns
-returns c = let x = walk_end c.loop-at.invariant (omega (arith, c.loop-at.invariant.placed)) in record { index = x.0; buffer = x.1 }
+returns c = let x = walk_end c.loop-i.invariant (omega (arith, c.loop-i-test.false)) in record { index = x.0; buffer = x.1 }
