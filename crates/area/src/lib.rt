@@ -18,6 +18,14 @@ use plans::{Bounds, Plan};
 use rows::Row;
 use table::{Kind, Rules};
 
+// What a walk over a filled work area goes by: rules, a line, and the work area that is filled for both.
+#[derive(Drop)]
+pub struct Filled<'a> {
+    pub table: &'a Rules<'a>,
+    pub line: &'a [u8],
+    pub work: &'a [u8],
+}
+
 // Whether c is within one of two ranges, as 1 or 0.
 fn in_either(low: u8, high: u8, low2: u8, high2: u8, c: u8) -> u8
     ensures { result ≡ cond (in_either low high low2 high2 c) 1 0 }
