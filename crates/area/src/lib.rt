@@ -15,7 +15,16 @@ ghost use Rattle.area.specs.Area.{Told};
 ghost use Rattle.area.specs.Filling.{Sized, Ready, Made, Progress, Visited, Woken, MarkedUnless, FilledFor, Seeded, LowsSet, Base};
 
 use plans::{Bounds, Plan};
+use rows::Row;
 use table::{Kind, Rules};
+
+// What a walk over a filled work area goes by: rules, a line, and the work area that is filled for both.
+#[derive(Drop)]
+pub struct Filled<'a> {
+    pub table: &'a Rules<'a>,
+    pub line: &'a [u8],
+    pub work: &'a [u8],
+}
 
 // Whether c is within one of two ranges, as 1 or 0.
 fn in_either(low: u8, high: u8, low2: u8, high2: u8, c: u8) -> u8
@@ -86,8 +95,9 @@ fn fill_or(table: &Rules, rest: &[u8], work: &mut [u8], k: usize)
 {
     let m = table.count();
     let d = rest.len();
-    rows::add(work, m, d, k, table.a_at(k) as usize, d);
-    rows::add(work, m, d, k, table.b_at(k) as usize, d);
+    let row = Row { m, d, k };
+    row.add(work, table.a_at(k) as usize, d);
+    row.add(work, table.b_at(k) as usize, d);
 }
 
 // The record that a Star iterates, below all the Stars of Stars: a Star of it spells the same lines.
@@ -113,9 +123,10 @@ fn fill_seq_of_star(table: &Rules, rest: &[u8], work: &mut [u8], k: usize)
 {
     let m = table.count();
     let d = rest.len();
+    let row = Row { m, d, k };
     let base = base_of(table, table.a_at(k) as usize);
-    rows::add(work, m, d, k, table.b_at(k) as usize, d);
-    rows::add_cuts(work, m, d, k, base, k, false);
+    row.add(work, table.b_at(k) as usize, d);
+    row.add_cuts(work, base, k, false);
 }
 
 // The row of another Seq: the second child's row, if the first child spells the empty line, and for each part of at least one byte that the
@@ -127,13 +138,14 @@ fn fill_seq_of_other(table: &Rules, rest: &[u8], work: &mut [u8], k: usize)
 {
     let m = table.count();
     let d = rest.len();
+    let row = Row { m, d, k };
     let a = table.a_at(k) as usize;
     let b = table.b_at(k) as usize;
     let star = table.kind_at(b) == Kind::Star;
     if work[a] != 0 {
-        rows::add(work, m, d, k, b, d);
+        row.add(work, b, d);
     }
-    rows::add_cuts(work, m, d, k, a, b, star);
+    row.add_cuts(work, a, b, star);
 }
 
 // The row of a Seq.
@@ -157,12 +169,13 @@ fn fill_star(table: &Rules, rest: &[u8], work: &mut [u8], k: usize)
 {
     let m = table.count();
     let d = rest.len();
+    let row = Row { m, d, k };
     let a = table.a_at(k) as usize;
     if table.kind_at(a) == Kind::Star {
-        rows::add(work, m, d, k, a, d);
+        row.add(work, a, d);
         return;
     }
-    rows::add_cuts(work, m, d, k, a, k, true);
+    row.add_cuts(work, a, k, true);
 }
 
 // Record k's row in the block of all of `rest`.

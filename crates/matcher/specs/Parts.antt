@@ -2,7 +2,7 @@
 -- Assumes nothing.
 use Rattle.std.specs.Prelude.{ℕ, Bool, List}
 use Rattle.posix.specs.Values.{Val}
-use Rattle.matcher.specs.declared.Filled.{Filled}
+use Rattle.area.specs.declared.Filled.{Filled}
 use Rattle.matcher.specs.declared.Part.{Part}
 use Rattle.matcher.specs.Walks.{Here, Given, Walked}
 

@@ -15,8 +15,9 @@ ghost use Rattle.matcher.specs.Demands.{Setting, NoneOutranks};
 ghost use Rattle.matcher.specs.Walks.{most_bytes, Room, Stored, Searched, LongestCut, Counted, Answered};
 ghost use Rattle.matcher.specs.Parts.{HereIn, GivenIn, WalkedIn};
 
+use area::Filled;
 use reading::{Place, ValueKind};
-use table::{Kind, Refusal, Rules};
+use table::{Kind, Refusal};
 
 // A part of the line for a record to read: the record's number, and the first `size` of the line's last `left` bytes.
 #[derive(Clone, Copy)]
@@ -24,14 +25,6 @@ pub struct Part {
     pub record: usize,
     pub left: usize,
     pub size: usize,
-}
-
-// What a walk goes by: rules, a line, and the work area that is filled for both.
-#[derive(Drop)]
-pub struct Filled<'a> {
-    pub table: &'a Rules<'a>,
-    pub line: &'a [u8],
-    pub work: &'a [u8],
 }
 
 // Stores the record of a part's reading at a position of the buffer, or only counts it, and returns the position behind it.

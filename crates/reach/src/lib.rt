@@ -13,6 +13,7 @@ ghost use Rattle.marks.specs.Marks.{marked, MarkedAll, MarkedToo};
 ghost use Rattle.rows.specs.Rows.{Inside};
 ghost use Rattle.reach.specs.Reaching.{place, If, spells_some, SomeFound, Known, RestOf, RestOfRow, Visiting, Visited, Reaching};
 
+use area::Filled;
 use table::{Kind, Rules};
 
 // Whether record k spells some line at all, by the records below it that do.
@@ -101,44 +102,30 @@ fn mark_row_rests(
 }
 
 // A letter: found where no byte of the line is left and it holds some byte, or where one is left and it holds that.
-fn visit_letter(
-    table: &Rules,
-    k: usize,
-    line: &[u8],
-    work: &[u8],
-    row: &[u64; 4],
-    marks: &[u64; 1024],
-) -> bool
-    requires visiting { Visiting table.now line.now work.now k marks.now row.now }
-    requires letter { is_letter table.now k ≡ true }
-    ensures { Visited table.now line.now k marks.now marks.now result }
+fn visit_letter(area: &Filled, k: usize, row: &[u64; 4], marks: &[u64; 1024]) -> bool
+    requires visiting { Visiting area.now.table.now area.now.line.now area.now.work.now k marks.now row.now }
+    requires letter { is_letter area.now.table.now k ≡ true }
+    ensures { Visited area.now.table.now area.now.line.now k marks.now marks.now result }
 {
-    let kind = table.kind_at(k).number();
-    let a = table.a_at(k);
-    let b = table.b_at(k);
+    let kind = area.table.kind_at(k).number();
+    let a = area.table.a_at(k);
+    let b = area.table.b_at(k);
     let at_end = marks::is_marked(row, 0) & table::letter_holds_some(kind, a, b);
-    let n = line.len();
+    let n = area.line.len();
     if n == 0 {
         return at_end;
     }
-    at_end | (marks::is_marked(row, 1) & table::letter_holds(kind, a, b, line[n - 1]))
+    at_end | (marks::is_marked(row, 1) & table::letter_holds(kind, a, b, area.line[n - 1]))
 }
 
 // An Or: both children are looked at from where it is.
-fn visit_or(
-    table: &Rules,
-    k: usize,
-    line: &[u8],
-    work: &[u8],
-    row: &[u64; 4],
-    marks: &mut [u64; 1024],
-) -> bool
-    requires visiting { Visiting table.now line.now work.now k marks.old row.now }
-    requires kind { kind_at table.now k ≡ 3 }
-    ensures { Visited table.now line.now k marks.old marks.new result }
+fn visit_or(area: &Filled, k: usize, row: &[u64; 4], marks: &mut [u64; 1024]) -> bool
+    requires visiting { Visiting area.now.table.now area.now.line.now area.now.work.now k marks.old row.now }
+    requires kind { kind_at area.now.table.now k ≡ 3 }
+    ensures { Visited area.now.table.now area.now.line.now k marks.old marks.new result }
 {
-    let a = table.a_at(k) as usize;
-    let b = table.b_at(k) as usize;
+    let a = area.table.a_at(k) as usize;
+    let b = area.table.b_at(k) as usize;
     marks::join_marks(marks, 4 * a, row);
     marks::join_marks(marks, 4 * b, row);
     false
@@ -147,23 +134,21 @@ fn visit_or(
 // A Seq: the second child is looked at behind each part that the first spells, and the first from where the Seq is, if the second spells some
 // line at all.
 fn visit_seq(
-    table: &Rules,
+    area: &Filled,
     k: usize,
-    line: &[u8],
-    work: &[u8],
     some: &[u64; 4],
     row: &[u64; 4],
     marks: &mut [u64; 1024],
 ) -> bool
-    requires visiting { Visiting table.now line.now work.now k marks.old row.now }
-    requires found { SomeFound table.now k some.now }
-    requires kind { kind_at table.now k ≡ 4 }
-    ensures { Visited table.now line.now k marks.old marks.new result }
+    requires visiting { Visiting area.now.table.now area.now.line.now area.now.work.now k marks.old row.now }
+    requires found { SomeFound area.now.table.now k some.now }
+    requires kind { kind_at area.now.table.now k ≡ 4 }
+    ensures { Visited area.now.table.now area.now.line.now k marks.old marks.new result }
 {
-    let m = table.count();
-    let a = table.a_at(k) as usize;
-    let b = table.b_at(k) as usize;
-    mark_row_rests(work, m, line.len(), row, a, b, marks);
+    let m = area.table.count();
+    let a = area.table.a_at(k) as usize;
+    let b = area.table.b_at(k) as usize;
+    mark_row_rests(area.work, m, area.line.len(), row, a, b, marks);
     if marks::is_marked(some, b) {
         marks::join_marks(marks, 4 * a, row);
     }
@@ -171,71 +156,50 @@ fn visit_seq(
 }
 
 // A Star: found where no byte of the line is left; otherwise its child is looked at behind each part that the Star spells.
-fn visit_star(
-    table: &Rules,
-    k: usize,
-    line: &[u8],
-    work: &[u8],
-    row: &[u64; 4],
-    marks: &mut [u64; 1024],
-) -> bool
-    requires visiting { Visiting table.now line.now work.now k marks.old row.now }
-    requires kind { kind_at table.now k ≡ 5 }
-    ensures { Visited table.now line.now k marks.old marks.new result }
+fn visit_star(area: &Filled, k: usize, row: &[u64; 4], marks: &mut [u64; 1024]) -> bool
+    requires visiting { Visiting area.now.table.now area.now.line.now area.now.work.now k marks.old row.now }
+    requires kind { kind_at area.now.table.now k ≡ 5 }
+    ensures { Visited area.now.table.now area.now.line.now k marks.old marks.new result }
 {
     if marks::is_marked(row, 0) {
         return true;
     }
-    let m = table.count();
-    let a = table.a_at(k) as usize;
-    mark_row_rests(work, m, line.len(), row, k, a, marks);
+    let m = area.table.count();
+    let a = area.table.a_at(k) as usize;
+    mark_row_rests(area.work, m, area.line.len(), row, k, a, marks);
     false
 }
 
 // Looks at record k: whether it is found there that the line can be extended; otherwise its marks are handed on to its children.
-fn visit(
-    table: &Rules,
-    k: usize,
-    line: &[u8],
-    work: &[u8],
-    some: &[u64; 4],
-    marks: &mut [u64; 1024],
-) -> bool
-    requires known { Known table.now line.now work.now }
-    requires inside { k < count table.now }
-    requires found { SomeFound table.now k some.now }
-    ensures { Visited table.now line.now k marks.old marks.new result }
+fn visit(area: &Filled, k: usize, some: &[u64; 4], marks: &mut [u64; 1024]) -> bool
+    requires known { Known area.now.table.now area.now.line.now area.now.work.now }
+    requires inside { k < count area.now.table.now }
+    requires found { SomeFound area.now.table.now k some.now }
+    ensures { Visited area.now.table.now area.now.line.now k marks.old marks.new result }
 {
-    let kind = table.kind_at(k);
+    let kind = area.table.kind_at(k);
     let mut row = [0; 4];
     marks::copy_marks(&mut row, marks, 4 * k);
     match kind {
         Kind::Nothing => false,
         Kind::Empty => marks::is_marked(&row, 0),
-        Kind::Range | Kind::Other => visit_letter(table, k, line, work, &row, marks),
-        Kind::Or => visit_or(table, k, line, work, &row, marks),
-        Kind::Seq => visit_seq(table, k, line, work, some, &row, marks),
-        Kind::Star => visit_star(table, k, line, work, &row, marks),
+        Kind::Range | Kind::Other => visit_letter(area, k, &row, marks),
+        Kind::Or => visit_or(area, k, &row, marks),
+        Kind::Seq => visit_seq(area, k, some, &row, marks),
+        Kind::Star => visit_star(area, k, &row, marks),
     }
 }
 
 // Visits the records from the start record down, until it is found that the line can be extended.
-fn search(
-    table: &Rules,
-    start: usize,
-    line: &[u8],
-    work: &[u8],
-    some: &[u64; 4],
-    marks: &mut [u64; 1024],
-) -> bool
-    requires known { Known table.now line.now work.now }
-    requires inside { start < count table.now }
-    requires found { SomeFound table.now start some.now }
-    requires reaching { Reaching table.now line.now start (start + 1) marks.old }
-    ensures { result ≡ extends (exp_of table.now start) line.now }
+fn search(area: &Filled, start: usize, some: &[u64; 4], marks: &mut [u64; 1024]) -> bool
+    requires known { Known area.now.table.now area.now.line.now area.now.work.now }
+    requires inside { start < count area.now.table.now }
+    requires found { SomeFound area.now.table.now start some.now }
+    requires reaching { Reaching area.now.table.now area.now.line.now start (start + 1) marks.old }
+    ensures { result ≡ extends (exp_of area.now.table.now start) area.now.line.now }
 {
     for k in (0..=start).rev() {
-        if visit(table, k, line, work, some, marks) {
+        if visit(area, k, some, marks) {
             return true;
         }
     }
@@ -261,5 +225,6 @@ pub fn can_extend(table: &Rules, start: usize, line: &[u8], work: &[u8]) -> bool
 {
     let some = find_some(table, start);
     let mut marks = mark_start(start, line.len());
-    search(table, start, line, work, &some, &mut marks)
+    let area = Filled { table, line, work };
+    search(&area, start, &some, &mut marks)
 }

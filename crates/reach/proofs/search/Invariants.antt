@@ -5,4 +5,4 @@ use Rattle.reach.specs.Reaching.{Reaching}
 use Rattle.reach.proofs.search.Given as goal
 
 abbrev pub invariant-loop-k : goal.invariant-loop-k
-invariant-loop-k l = Reaching l.table l.line l.start (l.k + 1) l.marks
+invariant-loop-k l = Reaching l.area.table.now l.area.line.now l.start (l.k + 1) l.marks

@@ -8,9 +8,9 @@ use Rattle.reach.proofs.visit_letter.Goals as goal
 pub returns-then-n-eq0 : goal.returns-then-n-eq0
 returns-then-n-eq0 c =
     letter-visited c.requires.visiting c.requires.letter _
-    (found-no-line c.args.table.now c.args.line.now c.args.k c.args.row.now (c.number-kind.ensures ∙ c.kind_at.ensures.kind) c.a_at-a.ensures c.b_at-b.ensures c.is_marked.ensures c.letter_holds_some.ensures (omega (arith, c.if-n-eq0.true)))
+    (found-no-line c.args.area.now.table.now c.args.area.now.line.now c.args.k c.args.row.now (c.number-kind.ensures ∙ c.kind_at.ensures.kind) c.a_at-a.ensures c.b_at-b.ensures c.is_marked.ensures c.letter_holds_some.ensures (omega (arith, c.if-n-eq0.true)))
 
 pub returns : goal.returns
 returns c =
     letter-visited c.requires.visiting c.requires.letter _
-    (found-line c.args.table.now c.args.line.now c.args.k c.args.row.now (c.number-kind.ensures ∙ c.kind_at.ensures.kind) c.a_at-a.ensures c.b_at-b.ensures c.is_marked.ensures c.letter_holds_some.ensures (omega arith) c.is_marked-2.ensures c.letter_holds.ensures)
+    (found-line c.args.area.now.table.now c.args.area.now.line.now c.args.k c.args.row.now (c.number-kind.ensures ∙ c.kind_at.ensures.kind) c.a_at-a.ensures c.b_at-b.ensures c.is_marked.ensures c.letter_holds_some.ensures (omega arith) c.is_marked-2.ensures c.letter_holds.ensures)
