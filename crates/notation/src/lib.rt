@@ -165,7 +165,7 @@ fn store(out: &mut [u8], k: usize, kind: Kind, a: u8, b: u8)
     if out.len() < 4 * k + 4 {
         return;
     }
-    table::put_record(out, k, kind, a, b, 0);
+    table::put_record(out, k, kind.number(), a, b, 0);
 }
 
 // Writes the tag of record k where the buffer has room for that record.

@@ -13,7 +13,7 @@ ghost use Rattle.reading.specs.ValueKinds.{value_number, Decodes};
 ghost use Rattle.reading.specs.Walks.{shape_of, shape_at, length_at, fit_at, fit_items, whole_at};
 ghost use Rattle.reading.specs.Calls.{if_start, spell_says, spell_leaves};
 
-use table::{Kind, Refusal, Rules};
+use table::{Kind, Refusal, Rules, UnknownKind};
 
 // The kind of a reading's record, in the order of their numbers. Both is document 01's Seq.
 #[derive(Clone, Copy, Debug, PartialEq, Eq)]
@@ -25,10 +25,6 @@ pub enum ValueKind {
     Both,
     Stars,
 }
-
-// A number that no kind of a reading's record has.
-#[derive(Clone, Copy, Debug, PartialEq, Eq)]
-pub struct UnknownKind(pub u8);
 
 impl TryFrom<u8> for ValueKind {
     type Error = UnknownKind;

@@ -818,20 +818,3 @@ pub fn tell(work: &[u8], m: usize, k: usize, d: usize, e: usize) -> bool
 {
     Row { m, d, k }.tell(work, e)
 }
-
-// Adds to record k's row in block d what record s spells of the last p bytes, behind the first d - p bytes.
-pub fn add(work: &mut [u8], m: usize, d: usize, k: usize, s: usize, p: usize)
-    requires growing { Growing m d k work.old }
-    requires earlier { Earlier m d k s p work.old }
-    ensures { Grown m d k (λ e. has m work.old k d e || behind m work.old s d p e) work.old work.new }
-{
-    Row { m, d, k }.add(work, s, p)
-}
-
-// Adds to record k's row in block d, for each length c of record f's row, what record s spells behind c bytes.
-pub fn add_cuts(work: &mut [u8], m: usize, d: usize, k: usize, f: usize, s: usize, star: bool)
-    requires { Cutting m d k f s star work.old }
-    ensures { Grown m d k (cuts_joined m work.old d k f s 1 (d + 1)) work.old work.new }
-{
-    Row { m, d, k }.add_cuts(work, f, s, star)
-}

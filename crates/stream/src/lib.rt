@@ -1,7 +1,7 @@
 // What the program prints for an input that comes in blocks.
 #![tactic(auto)]
 
-ghost use Rattle.std.specs.Prelude.{◌+◌, ◌≤◌, ◌<◌, ◌≡◌, ◌++◌, length, take, drop};
+ghost use Rattle.std.specs.Prelude.{replicate, ◌+◌, ◌≤◌, ◌<◌, ◌≡◌, ◌++◌, length, take, drop};
 ghost use Rattle.report.specs.Report.{line_report};
 ghost use Rattle.printing.specs.Writes.{Wrote};
 ghost use Rattle.stream.specs.Output.{last_record};
@@ -16,7 +16,12 @@ pub struct Buffers {
 }
 
 impl Buffers {
-    pub fn new() -> Buffers {
+    // Buffers of zeros.
+    pub fn new() -> Buffers
+        ensures work { result.work ≡ replicate 65536 0 }
+        ensures reading { result.reading ≡ replicate 32768 0 }
+        ensures tokens { result.tokens ≡ replicate 4096 0 }
+    {
         Buffers {
             work: [0; 65536],
             reading: [0; 32768],

@@ -1,5 +1,4 @@
--- The kinds of a record by their numbers (document 01, "The rule table", and document 02, request 1), and the answer for bytes that are taken as
--- rules.
+-- The kinds of a record by their numbers (document 01, "The rule table", and document 02, request 1).
 -- Assumes nothing.
 use Rattle.std.specs.Prelude.{ℕ, ◌<◌, ◌≡◌, Result, MatchResult}
 use Rattle.table.specs.declared.Kind.{Kind}
@@ -16,6 +15,9 @@ number_of Seq = 4
 number_of Star = 5
 number_of Other = 6
 
--- the result is the kind with this number, or an error where no kind has it
+-- the result is the kind with this number, or an error where none has it: kinds have the numbers up to the last
+abbrev pub DecodedBy : {K : Type 0} → (K → ℕ) → ℕ → ℕ → Result K UnknownKind → Type 0
+DecodedBy number last n r = MatchResult r (λ kind. number kind ≡ n) (λ _. last < n)
+
 abbrev pub Decodes : ℕ → Result Kind UnknownKind → Type 0
-Decodes n r = MatchResult r (λ kind. number_of kind ≡ n) (λ _. 6 < n)
+Decodes n r = DecodedBy number_of 6 n r

@@ -129,12 +129,12 @@ impl Refusal {
     }
 }
 
-// Stores record k.
-pub fn put_record(table: &mut [u8], k: usize, kind: Kind, a: u8, b: u8, tag: u8)
+// Stores record k, its kind by its number.
+pub fn put_record(table: &mut [u8], k: usize, kind: u8, a: u8, b: u8, tag: u8)
     requires { 4 * k + 3 < length table.old }
-    ensures { table.new ≡ sets table.old (4 * k) (record_bytes (number_of kind) a b tag) }
+    ensures { table.new ≡ sets table.old (4 * k) (record_bytes kind a b tag) }
 {
-    table[4 * k] = kind.number();
+    table[4 * k] = kind;
     table[4 * k + 1] = a;
     table[4 * k + 2] = b;
     table[4 * k + 3] = tag;
@@ -277,7 +277,15 @@ impl<'a> Rules<'a> {
         ensures rules { IfOk result (λ rules. rules ≡ bytes.entry.now) }
     {
         check(bytes)?;
-        Ok(Rules { bytes })
+        Ok(Rules::of(bytes))
+    }
+
+    // The rules of a table that is known to pass.
+    pub fn of(bytes: &'a [u8]) -> Rules<'a>
+        requires { Passes bytes.now }
+        ensures { result ≡ bytes.entry.now }
+    {
+        Rules { bytes }
     }
 
     // The number of records.

@@ -9,7 +9,7 @@ use Rattle.edges.proofs.all_marked.Goals as goal
 pub returns-then-from_mark-eq0 : goal.returns-then-from_mark-eq0
 returns-then-from_mark-eq0 c =
     λ z. pair-unmarked _ _ (2 * c.loop-i.i) (omega (arith, c.loop-i-test.true)) _ _ c.from_mark.ensures c.from_mark-in-loop-i.ensures
-        c.if-from_mark-eq0.true
+    c.if-from_mark-eq0.true
 
 pub returns-else-n-eq0 : goal.returns-else-n-eq0
 returns-else-n-eq0 c =

@@ -4,11 +4,11 @@ use Rattle.table.specs.Answers.{gives, says}
 use Rattle.table.proofs.Checking.{check-gives}
 use Rattle.table.proofs.Rules.new.Goals as goal
 
-pub invariant_of-result : goal.invariant_of-result
-invariant_of-result c =
+pub of-requires : goal.of-requires
+of-requires c =
     (check-gives c.args.bytes.now c.in_ok-check.field-0 (sym c.check.ensures.answer ∙ ap says c.in_ok-check.was)).0
 
 pub returns-clause-answer : goal.returns-clause-answer
 returns-clause-answer c =
     let g = sym c.check.ensures.answer ∙ ap says c.in_ok-check.was in
-    ap gives (sym (check-gives c.args.bytes.now c.in_ok-check.field-0 g).1) ∙ sym g
+    rw c.of.ensures (ap gives (sym (check-gives c.args.bytes.now c.in_ok-check.field-0 g).1) ∙ sym g)
