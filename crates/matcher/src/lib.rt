@@ -1,6 +1,6 @@
 // Read: the POSIX reading of a line. The work area tells which record spells which part of the line; the walk goes from the start record
-// and the whole line down to single bytes and stores the records of the reading on its way. Where the walk is, a `Part`
-// says.
+// and the whole line down to single bytes and stores the records of the reading on its way. A `Part` says where the
+// walk is.
 
 #![tactic(auto)]
 
