@@ -266,13 +266,27 @@ fn fill_bytes(table: &Rules, line: &[u8], work: &mut [u8], plan: &Plan)
     }
 }
 
-// Fills the work area for a line of at most 255 bytes.
+// Fills the work area for a line of at most 255 bytes. The plan is made here, where it lies: one that a function hands out is copied.
 pub fn fill(table: &Rules, line: &[u8], work: &mut [u8])
     requires short { length line.now ≤ 255 }
     requires room { area_size (count table.now) (length line.now) ≤ length work.old }
     ensures told { Told table.now line.now work.new }
     ensures length { length work.new ≡ length work.old }
 {
-    let plan = Plan::of(table, work);
+    let mut plan = Plan {
+        bounds: Bounds {
+            low: [0; 256],
+            high: [0; 256],
+            low2: [0; 256],
+            high2: [0; 256],
+            repeat: [0; 256],
+            plain: [false; 256],
+        },
+        up: [255; 256],
+        sets: [0; 1024],
+        runs: [0; 256],
+        run_count: 0,
+    };
+    plan.find(table, work);
     fill_bytes(table, line, work, &plan);
 }

@@ -1,55 +1,16 @@
 -- Up to the next byte 10 no line ends, and it ends one.
 -- Assumes nothing.
-use Prim.Native.Nat.{ℕ, suc, ◌+◌, ◌-◌, ◌≤◌, ◌<◌}
+use Prim.Native.Nat.{ℕ, suc, ◌+◌, ◌-◌, ◌<◌}
 use mathlib.Core.Path.{◌≡◌, refl, sym, ◌∙◌, ap}
 use mathlib.Core.List.{List, [], ◌∷◌, ◌++◌, append_assoc, append-nil}
 use native.Mathlib.Omega.{arith}
 use native.Mathlib.Numerals.{add-one}
 use borrow.Author.Tests.{ne_eqb}
-use Rattle.std.specs.List.{AllWithin, HoldsAt}
-use lib.ListN.{length, take, drop, get_or, length-drop}
-use lib.Seq.{take-suc, take_all, take-add, get_or-take, get_or-drop, length-take-le}
+use lib.ListN.{length, take, drop, length-drop}
+use lib.Seq.{take-suc, take-add, get_or-take, get_or-drop, length-take-le}
 use Rattle.lines.specs.Lines.{NoEnd, ended_lines, open_line}
 use Rattle.lines.specs.Ends.{NextEnd}
 use Rattle.lines.proofs.Splitting.{ended-append, open-append}
-
--- the first byte 10 of the rest of a block, as an iterator finds it, or that there is none
-module _ (block : List ℕ) (from : ℕ) (h : from ≤ length block) where
-  abbrev pub rest : List ℕ
-  rest = take (length block - from) (drop from block)
-
-  rest-all : rest ≡ drop from block
-  rest-all = take_all (length block - from) (drop from block) (omega (arith, length-drop from block))
-
-  at_rest : (k : ℕ) → get_or rest k 0 ≡ get_or block (from + k) 0
-  at_rest k = ap (λ (x : List ℕ). get_or x k 0) rest-all ∙ get_or-drop from block k 0
-
-  at_block : (k : ℕ) → from ≤ k → get_or rest (k - from) 0 ≡ get_or block k 0
-  at_block k g =
-      let n : from + (k - from) ≡ k = omega arith in
-      at_rest (k - from) ∙ ap (λ (j : ℕ). get_or block j 0) n
-
-  pub next_found :
-      (i : ℕ) → (i < length rest) × HoldsAt (λ b. b ≡ 10) rest i × AllWithin (λ b. b ≡ 10 → ⊥) rest 0 i
-      → NextEnd block from (from + i)
-  next_found i e =
-      let l : length rest ≡ length block - from = ap length rest-all ∙ length-drop from block in
-      record {
-        behind = omega arith;
-        inside = omega (arith, e.0);
-        passed = λ k g n q. e.2 (k - from) 0 (omega arith) (omega arith) (at_block k g ∙ q);
-        found = λ _. sym (at_rest i) ∙ e.1 0;
-      }
-
-  pub next_none : AllWithin (λ b. b ≡ 10 → ⊥) rest 0 (length rest) → NextEnd block from (length block)
-  next_none e =
-      let l : length rest ≡ length block - from = ap length rest-all ∙ length-drop from block in
-      record {
-        behind = omega arith;
-        inside = omega arith;
-        passed = λ k g n q. e (k - from) 0 (omega arith) (omega arith) (at_block k g ∙ q);
-        found = λ n. absurd (omega arith);
-      }
 
 pub none_tail : (c : ℕ) (s : List ℕ) → NoEnd (c ∷ s) → NoEnd s
 none_tail c s h i l = h (suc i) (omega arith)

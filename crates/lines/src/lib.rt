@@ -11,10 +11,12 @@ pub fn line_end(block: &[u8], from: usize) -> usize
     requires { from ≤ length block.now }
     ensures { NextEnd block.now from result }
 {
-    match block[from..].iter().position(|&b| b == b'\n') {
-        Some(passed) => from + passed,
-        None => block.len(),
+    for i in from..block.len() {
+        if block[i] == b'\n' {
+            return i;
+        }
     }
+    block.len()
 }
 
 // Where the line behind one begins that ends at a position: behind its byte 10, or at the block's end where there is none.

@@ -105,6 +105,7 @@ join_count mark count = cond (eqb mark 0) count (count + 1)
 -- the numbers of a walk r whose last item has joined the row, from those of w before
 pub record ItemEnded (w r : Walk) : Type 0 where
   pub count_near : r.count ≤ w.count + 1
+  pub left_kept : r.marks.left ≡ w.marks.left
   pub none_left : r.item ≡ Absent
   pub depth_kept : r.depth ≡ w.depth
 

@@ -339,7 +339,6 @@ impl Plan {
         ensures empty_told { EmptyTold table.now (count table.now) work.new }
         ensures length { length work.new ≡ length work.old }
     {
-        let m = table.count();
         let mut plan = Plan {
             bounds: Bounds {
                 low: [0; 256],
@@ -354,11 +353,24 @@ impl Plan {
             runs: [0; 256],
             run_count: 0,
         };
-        find_empty(table, work);
-        find_bounds(table, &mut plan.bounds);
-        find_parents(table, &plan.bounds, work, &mut plan.up);
-        find_sets(m, &plan.bounds, &plan.up, &mut plan.sets);
-        plan.run_count = find_runs(m, &plan.bounds, &mut plan.runs);
+        plan.find(table, work);
         plan
+    }
+
+    // The same in the place of another plan: one that is handed out is copied.
+    pub fn find(&mut self, table: &Rules, work: &mut [u8])
+        requires columns { Columns self.old.bounds }
+        requires room { count table.now ≤ length work.old }
+        ensures planned { Planned table.now self.new }
+        ensures passes { Passes table.now }
+        ensures empty_told { EmptyTold table.now (count table.now) work.new }
+        ensures length { length work.new ≡ length work.old }
+    {
+        let m = table.count();
+        find_empty(table, work);
+        find_bounds(table, &mut self.bounds);
+        find_parents(table, &self.bounds, work, &mut self.up);
+        find_sets(m, &self.bounds, &self.up, &mut self.sets);
+        self.run_count = find_runs(m, &self.bounds, &mut self.runs);
     }
 }

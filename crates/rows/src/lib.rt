@@ -15,7 +15,8 @@ struct Run {
     next: usize,
 }
 
-// Record k's row in the block of the last d bytes of the line, in the area of a table of m records.
+// Record k's row in the block of the last d bytes of the line, in the area of a table of m records. Where a method is to be inlined, the loop that
+// calls it keeps these numbers in registers.
 #[derive(Clone, Copy, Drop)]
 pub struct Row {
     pub m: usize,
@@ -104,6 +105,7 @@ fn join_low(low: usize, high: usize, a: usize, b: usize) -> Option<usize>
 
 impl Row {
     // Where record k's header of block d stands.
+    #[inline(always)]
     pub fn head(&self) -> usize
         requires m_bound { self.now.m ≤ 65535 }
         requires d_bound { self.now.d ≤ 255 }
@@ -114,6 +116,7 @@ impl Row {
     }
 
     // Where record k's row of block d starts.
+    #[inline(always)]
     pub fn start(&self) -> usize
         requires m_bound { self.now.m ≤ 65535 }
         requires d_bound { self.now.d ≤ 255 }
@@ -124,6 +127,7 @@ impl Row {
     }
 
     // The longest length of record k's row in block d, or 0.
+    #[inline(always)]
     pub fn longest(&self, work: &[u8]) -> usize
         requires { Inside self.now.m self.now.d self.now.k work.now }
         ensures { (result ≡ longest_at work.now self.now.m self.now.d self.now.k) × (result < 256) }
@@ -132,6 +136,7 @@ impl Row {
     }
 
     // The lowest length of the row's run, where it is one; h is its longest length.
+    #[inline(always)]
     fn lowest(&self, work: &[u8], h: usize) -> Option<usize>
         requires inside { Inside self.now.m self.now.d self.now.k work.now }
         requires le_d { 1 ≤ self.now.d }
@@ -149,6 +154,7 @@ impl Row {
     }
 
     // Whether record k spells the first e of the last d bytes of the line.
+    #[inline(always)]
     pub fn tell(&self, work: &[u8], e: usize) -> bool
         requires inside { Inside self.now.m self.now.d self.now.k work.now }
         requires e_le_d { e ≤ self.now.d }
@@ -171,6 +177,7 @@ impl Row {
     }
 
     // Marks the lengths from `low` to `high` in a row that is written out; the whole block's length has no mark.
+    #[inline(always)]
     fn mark_lengths(&self, work: &mut [u8], low: usize, high: usize)
         requires inside { Inside self.now.m self.now.d self.now.k work.old }
         requires le_low { 1 ≤ low }
@@ -209,6 +216,7 @@ impl Row {
     }
 
     // Adds the lengths from `low` to `high` to a row that is written out, and raises its header; h is its longest length. Returns the new one.
+    #[inline(always)]
     fn raise_run(&self, work: &mut [u8], low: usize, high: usize, h: usize) -> usize
         requires is_open { Open self.now.m self.now.d self.now.k h work.old }
         requires le_low { (1 ≤ low) × (low ≤ high) × (high ≤ self.now.d) }
@@ -225,6 +233,7 @@ impl Row {
 
     // The same for the lengths of another row that is written out, which stands in block p, behind the first d - p bytes; `high` is its longest
     // length.
+    #[inline(always)]
     fn raise_row(&self, work: &mut [u8], s: usize, p: usize, high: usize, h: usize) -> usize
         requires is_open { Open self.now.m self.now.d self.now.k h work.old }
         requires earlier { Earlier self.now.m self.now.d self.now.k s p work.old }
@@ -428,6 +437,7 @@ impl Row {
 
     // Adds the lengths of record s's row in block p, p > 0, behind the first d - p bytes, to a row that is written out; h is its longest length.
     // Returns the new one.
+    #[inline(always)]
     fn add_row_marked(&self, work: &mut [u8], s: usize, p: usize, h: usize) -> usize
         requires growing { Growing self.now.m self.now.d self.now.k work.old }
         requires written_out { WrittenOut self.now.m self.now.d self.now.k h work.old }
@@ -453,6 +463,7 @@ impl Row {
 
     // Adds what record s spells of the last p bytes, p < d, behind the first d - p bytes, to a row that is written out; h is its longest length.
     // Returns the new one.
+    #[inline(always)]
     fn add_marked(&self, work: &mut [u8], s: usize, p: usize, h: usize) -> usize
         requires growing { Growing self.now.m self.now.d self.now.k work.old }
         requires written_out { WrittenOut self.now.m self.now.d self.now.k h work.old }
@@ -475,6 +486,7 @@ impl Row {
     }
 
     // The least length of a row that is not below `from`; h is its longest length, and low its lowest where it is a run.
+    #[inline(always)]
     fn next_in(&self, work: &[u8], h: usize, low: Option<usize>, from: usize) -> Option<usize>
         requires growing { Growing self.now.m self.now.d self.now.k work.now }
         requires longest { h ≡ longest_at work.now self.now.m self.now.d self.now.k }
@@ -516,6 +528,7 @@ impl Row {
     }
 
     // The cut behind c bytes, or the next one where `star` and the row has it.
+    #[inline(always)]
     fn skip_reached(&self, work: &[u8], c: usize, star: bool) -> usize
         requires growing { Growing self.now.m self.now.d self.now.k work.now }
         requires le_c { (1 ≤ c) × (c ≤ self.now.d + 1) }
@@ -561,6 +574,7 @@ impl Row {
     }
 
     // Where the lengths that a row has up to the last one start: it has each from there on. h is its longest length, and it has each from t on.
+    #[inline(always)]
     fn tail(&self, work: &[u8], h: usize, t: usize) -> usize
         requires growing { Growing self.now.m self.now.d self.now.k work.now }
         requires written_out { WrittenOut self.now.m self.now.d self.now.k h work.now }
@@ -588,19 +602,20 @@ impl Row {
         requires le_c { (1 ≤ c) × (c ≤ self.now.d + 1) }
         ensures { Grown self.now.m self.now.d self.now.k (cuts_joined self.now.m work.old self.now.d self.now.k f s c (self.now.d + 1)) work.old work.new }
     {
-        let first = Row { k: f, ..*self };
-        let mut h = self.longest(work);
+        let row = *self;
+        let first = Row { k: f, ..row };
+        let mut h = row.longest(work);
         let high = first.longest(work);
         let low = first.lowest(work, high);
-        let mut t = self.d + 1;
+        let mut t = row.d + 1;
         let mut next = first.next_in(work, high, low, c);
         while let Some(i) = next {
-            h = self.add_marked(work, s, self.d - i, h);
-            t = self.tail(work, h, t);
+            h = row.add_marked(work, s, row.d - i, h);
+            t = row.tail(work, h, t);
             if t <= i + 1 {
                 return;
             }
-            let open = self.skip_reached(work, i + 1, star);
+            let open = row.skip_reached(work, i + 1, star);
             next = first.next_in(work, high, low, open);
         }
     }

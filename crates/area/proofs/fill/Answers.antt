@@ -3,5 +3,5 @@
 use Rattle.area.proofs.Filling.{count_room}
 use Rattle.area.proofs.fill.Goals as goal
 
-pub of-plan-requires : goal.of-plan-requires
-of-plan-requires c = count_room _ _ _ c.requires.room
+pub find-requires-clause-room : goal.find-requires-clause-room
+find-requires-clause-room c = count_room _ _ _ c.requires.room

@@ -4,4 +4,4 @@ use Rattle.lines.proofs.Keeping.{keeps}
 use Rattle.lines.proofs.keep.Goals as goal
 
 pub returns : goal.returns
-returns c = record { few = omega arith; holds = keeps _ _ _ _ _ c.requires.line c.requires.kept c.min-next.ensures c.copy_from_slice.ensures.after }
+returns c = record { few = omega arith; holds = keeps _ _ _ _ _ c.requires.line c.requires.kept (omega (arith, c.min-next.ensures)) c.copy_from_slice.ensures.after }

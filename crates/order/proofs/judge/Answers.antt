@@ -14,7 +14,7 @@ pub returns-then-lacks_first : goal.returns-then-lacks_first
 returns-then-lacks_first c =
     let l = c.loop-i in
     sym
-    (one-broken c.args.tokens.now c.args.pairs.now _ l.i c.loop-i-test.true l.invariant.free
+    (one-broken c.args.tokens.now c.args.pairs.now _ l.i (omega (arith, c.loop-i-test.true)) l.invariant.free
     (breaks-as _ _ l.seen _ l.invariant.seen c.lacks_first.ensures c.if-lacks_first.true))
 
 pub loop-i-preserved : goal.loop-i-preserved
