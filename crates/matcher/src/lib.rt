@@ -1,6 +1,5 @@
 // Read: the POSIX reading of a line. The work area tells which record spells which part of the line; the walk goes from the start record
-// and the whole line down to single bytes and stores the records of the reading on its way. A `Part` says where the
-// walk is.
+// and the whole line down to single bytes and stores the records of the reading on its way. A `Part` says where the walk is.
 
 #![tactic(auto)]
 
@@ -12,7 +11,7 @@ ghost use Rattle.reading.specs.Codec.{record_with, encode_below, encode};
 ghost use Rattle.reading.specs.ValueKinds.{value_number};
 ghost use Rattle.matcher.specs.Calls.{read_says, read_leaves, keeps_work, PosixWritten, Unbeaten};
 ghost use Rattle.matcher.specs.Demands.{Setting, NoneOutranks};
-ghost use Rattle.matcher.specs.Walks.{most_bytes, Room, Stored, Searched, LongestCut, Counted, Answered};
+ghost use Rattle.matcher.specs.Walks.{most_bytes, Room, Stored, Searched, LongestCut, Given, Walked, Counted, Answered};
 ghost use Rattle.matcher.specs.Parts.{HereIn, GivenIn, WalkedIn};
 
 use area::Filled;
@@ -39,17 +38,24 @@ fn put(out: &mut [u8], at: usize, kind: ValueKind, argument: u8, part: Part, wri
     at + Place::RECORD
 }
 
-// The longest first part, of at least `lowest` bytes, that the part's record spells and whose rest record b spells.
-fn longest_first_part(work: &[u8], m: usize, part: Part, b: usize, lowest: usize) -> usize
-    requires { Searched m part.record b part.left part.size lowest work.now }
-    ensures { LongestCut m work.now part.record b part.left part.size lowest result }
+// The longest first part of the first `size` of the line's last `left` bytes, of at least `lowest` bytes, that record a spells and whose rest record b
+// spells.
+fn longest_first_part(
+    work: &[u8],
+    m: usize,
+    a: usize,
+    b: usize,
+    left: usize,
+    size: usize,
+    lowest: usize,
+) -> usize
+    requires { Searched m a b left size lowest work.now }
+    ensures { LongestCut m work.now a b left size lowest result }
 {
-    let mut cut = part
-        .size
-        .min(rows::longest(work, m, part.left, part.record));
+    let mut cut = size.min(rows::longest(work, m, left, a));
     while lowest < cut {
-        if rows::tell(work, m, part.record, part.left, cut) {
-            if rows::tell(work, m, b, part.left - cut, part.size - cut) {
+        if rows::tell(work, m, a, left, cut) {
+            if rows::tell(work, m, b, left - cut, size - cut) {
                 return cut;
             }
         }
@@ -71,7 +77,7 @@ fn count_iterations(area: &Filled, part: Part) -> usize
     let mut size = part.size;
     let mut times = 0;
     while 0 < size {
-        let first = longest_first_part(area.work, m, Part { record, left, size }, part.record, 1);
+        let first = longest_first_part(area.work, m, record, part.record, left, size, 1);
         left -= first;
         size -= first;
         times += 1;
@@ -98,82 +104,117 @@ fn walk_letter(area: &Filled, part: Part, out: &mut [u8], at: usize, writing: bo
     put(out, at, ValueKind::Byte, c, part, writing)
 }
 
+// The functions from here on call one another. They take a part as its numbers, record k and the first `size` of the line's last `left` bytes: so
+// the last call of an Or and of a Seq is a jump, and takes no stack.
+
 // An Or's part: Left where the first child spells it, otherwise Right.
 #[cycle(walking)]
-fn walk_or(area: &Filled, part: Part, out: &mut [u8], at: usize, writing: bool) -> usize
-    requires given { GivenIn (encode area.now.table.now part.record) area.now part out.old at writing }
-    requires or { kind_at area.now.table.now part.record ≡ 3 }
-    ensures { WalkedIn (encode area.now.table.now part.record) area.now part out.old at writing out.new result }
+fn walk_or(
+    area: &Filled,
+    k: usize,
+    left: usize,
+    size: usize,
+    out: &mut [u8],
+    at: usize,
+    writing: bool,
+) -> usize
+    requires given { Given (encode area.now.table.now k) area.now.table.now area.now.line.now area.now.work.now k left size out.old at writing }
+    requires or { kind_at area.now.table.now k ≡ 3 }
+    ensures { Walked (encode area.now.table.now k) area.now.table.now area.now.line.now k left size out.old at writing out.new result }
 {
     let m = area.table.count();
-    let a = area.table.a_at(part.record) as usize;
-    let b = area.table.b_at(part.record) as usize;
-    if rows::tell(area.work, m, a, part.left, part.size) {
+    let a = area.table.a_at(k) as usize;
+    let b = area.table.b_at(k) as usize;
+    let part = Part {
+        record: k,
+        left,
+        size,
+    };
+    if rows::tell(area.work, m, a, left, size) {
         let next = put(out, at, ValueKind::Left, 0, part, writing);
-        return walk(area, Part { record: a, ..part }, out, next, writing);
+        return walk(area, a, left, size, out, next, writing);
     }
     let next = put(out, at, ValueKind::Right, 0, part, writing);
-    walk(area, Part { record: b, ..part }, out, next, writing)
+    walk(area, b, left, size, out, next, writing)
 }
 
 // A Seq's part: the longest first part, then the rest.
 #[cycle(walking)]
-fn walk_seq(area: &Filled, part: Part, out: &mut [u8], at: usize, writing: bool) -> usize
-    requires given { GivenIn (encode area.now.table.now part.record) area.now part out.old at writing }
-    requires seq { kind_at area.now.table.now part.record ≡ 4 }
-    ensures { WalkedIn (encode area.now.table.now part.record) area.now part out.old at writing out.new result }
+fn walk_seq(
+    area: &Filled,
+    k: usize,
+    left: usize,
+    size: usize,
+    out: &mut [u8],
+    at: usize,
+    writing: bool,
+) -> usize
+    requires given { Given (encode area.now.table.now k) area.now.table.now area.now.line.now area.now.work.now k left size out.old at writing }
+    requires seq { kind_at area.now.table.now k ≡ 4 }
+    ensures { Walked (encode area.now.table.now k) area.now.table.now area.now.line.now k left size out.old at writing out.new result }
 {
     let m = area.table.count();
-    let a = area.table.a_at(part.record) as usize;
-    let b = area.table.b_at(part.record) as usize;
-    let first = longest_first_part(area.work, m, Part { record: a, ..part }, b, 0);
+    let a = area.table.a_at(k) as usize;
+    let b = area.table.b_at(k) as usize;
+    let part = Part {
+        record: k,
+        left,
+        size,
+    };
+    let first = longest_first_part(area.work, m, a, b, left, size, 0);
     let next = put(out, at, ValueKind::Both, 0, part, writing);
-    let front = Part {
-        record: a,
-        size: first,
-        ..part
-    };
-    let rest = Part {
-        record: b,
-        left: part.left - first,
-        size: part.size - first,
-    };
-    let middle = walk(area, front, out, next, writing);
-    walk(area, rest, out, middle, writing)
+    let middle = walk(area, a, left, first, out, next, writing);
+    walk(area, b, left - first, size - first, out, middle, writing)
 }
 
 // A Star's part: the count, then the iterations.
 #[cycle(walking)]
-fn walk_star(area: &Filled, part: Part, out: &mut [u8], at: usize, writing: bool) -> usize
-    requires given { GivenIn (encode area.now.table.now part.record) area.now part out.old at writing }
-    requires star { kind_at area.now.table.now part.record ≡ 5 }
-    ensures { WalkedIn (encode area.now.table.now part.record) area.now part out.old at writing out.new result }
+fn walk_star(
+    area: &Filled,
+    k: usize,
+    left: usize,
+    size: usize,
+    out: &mut [u8],
+    at: usize,
+    writing: bool,
+) -> usize
+    requires given { Given (encode area.now.table.now k) area.now.table.now area.now.line.now area.now.work.now k left size out.old at writing }
+    requires star { kind_at area.now.table.now k ≡ 5 }
+    ensures { Walked (encode area.now.table.now k) area.now.table.now area.now.line.now k left size out.old at writing out.new result }
 {
+    let part = Part {
+        record: k,
+        left,
+        size,
+    };
     let times = count_iterations(area, part);
     let next = put(out, at, ValueKind::Stars, times as u8, part, writing);
-    walk_iterations(area, part, out, next, writing)
+    walk_iterations(area, k, left, size, out, next, writing)
 }
 
 // A Star's iterations, each the longest first part of what is left.
 #[cycle(walking)]
-fn walk_iterations(area: &Filled, part: Part, out: &mut [u8], at: usize, writing: bool) -> usize
-    requires given { GivenIn (encode_below area.now.table.now part.record) area.now part out.old at writing }
-    requires star { kind_at area.now.table.now part.record ≡ 5 }
-    ensures { WalkedIn (encode_below area.now.table.now part.record) area.now part out.old at writing out.new result }
+fn walk_iterations(
+    area: &Filled,
+    k: usize,
+    whole_left: usize,
+    whole_size: usize,
+    out: &mut [u8],
+    at: usize,
+    writing: bool,
+) -> usize
+    requires given { Given (encode_below area.now.table.now k) area.now.table.now area.now.line.now area.now.work.now k whole_left whole_size out.old at writing }
+    requires star { kind_at area.now.table.now k ≡ 5 }
+    ensures { Walked (encode_below area.now.table.now k) area.now.table.now area.now.line.now k whole_left whole_size out.old at writing out.new result }
 {
     let m = area.table.count();
-    let record = area.table.a_at(part.record) as usize;
-    let mut left = part.left;
-    let mut size = part.size;
+    let record = area.table.a_at(k) as usize;
+    let mut left = whole_left;
+    let mut size = whole_size;
     let mut next = at;
     while 0 < size {
-        let cut = longest_first_part(area.work, m, Part { record, left, size }, part.record, 1);
-        let first = Part {
-            record,
-            left,
-            size: cut,
-        };
-        next = walk(area, first, out, next, writing);
+        let cut = longest_first_part(area.work, m, record, k, left, size, 1);
+        next = walk(area, record, left, cut, out, next, writing);
         left -= cut;
         size -= cut;
     }
@@ -182,17 +223,45 @@ fn walk_iterations(area: &Filled, part: Part, out: &mut [u8], at: usize, writing
 
 // Stores, or only counts, the records of a part's POSIX reading, and returns the position behind them.
 #[cycle(walking)]
-fn walk(area: &Filled, part: Part, out: &mut [u8], at: usize, writing: bool) -> usize
-    requires { GivenIn (encode area.now.table.now part.record) area.now part out.old at writing }
-    ensures { WalkedIn (encode area.now.table.now part.record) area.now part out.old at writing out.new result }
+fn walk(
+    area: &Filled,
+    k: usize,
+    left: usize,
+    size: usize,
+    out: &mut [u8],
+    at: usize,
+    writing: bool,
+) -> usize
+    requires { Given (encode area.now.table.now k) area.now.table.now area.now.line.now area.now.work.now k left size out.old at writing }
+    ensures { Walked (encode area.now.table.now k) area.now.table.now area.now.line.now k left size out.old at writing out.new result }
 {
-    match area.table.kind_at(part.record) {
+    match area.table.kind_at(k) {
         Kind::Nothing => at,
-        Kind::Empty => walk_empty(area, part, out, at, writing),
-        Kind::Range | Kind::Other => walk_letter(area, part, out, at, writing),
-        Kind::Or => walk_or(area, part, out, at, writing),
-        Kind::Seq => walk_seq(area, part, out, at, writing),
-        Kind::Star => walk_star(area, part, out, at, writing),
+        Kind::Empty => walk_empty(
+            area,
+            Part {
+                record: k,
+                left,
+                size,
+            },
+            out,
+            at,
+            writing,
+        ),
+        Kind::Range | Kind::Other => walk_letter(
+            area,
+            Part {
+                record: k,
+                left,
+                size,
+            },
+            out,
+            at,
+            writing,
+        ),
+        Kind::Or => walk_or(area, k, left, size, out, at, writing),
+        Kind::Seq => walk_seq(area, k, left, size, out, at, writing),
+        Kind::Star => walk_star(area, k, left, size, out, at, writing),
     }
 }
 
@@ -217,14 +286,14 @@ fn write_reading(area: &Filled, line: Part, out: &mut [u8]) -> Result<usize, Ref
     ensures { Answered area.now.table.now area.now.line.now line.record out.old out.new (says result) }
 {
     if most_bytes(area.table.count(), line.size) <= out.len() {
-        let end = walk(area, line, out, 0, true);
+        let end = walk(area, line.record, line.left, line.size, out, 0, true);
         return Ok(end / Place::RECORD);
     }
-    let need = walk(area, line, out, 0, false);
+    let need = walk(area, line.record, line.left, line.size, out, 0, false);
     if out.len() < need {
         return Err(Refusal::Buffer(need));
     }
-    let end = walk(area, line, out, 0, true);
+    let end = walk(area, line.record, line.left, line.size, out, 0, true);
     Ok(end / Place::RECORD)
 }
 

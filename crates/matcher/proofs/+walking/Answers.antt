@@ -15,7 +15,7 @@ pub walk-walk_empty-requires : goal.walk-walk_empty-requires
 walk-walk_empty-requires t c = record { given = c.requires; empty = sym c.kind_at.ensures.kind ∙ ap number_of c.in-Empty.is }
 
 pub walk-walk_letter-requires : goal.walk-walk_letter-requires
-walk-walk_letter-requires t c = record { given = c.requires; letter = letter_at c.args.area.now.table.now c.args.part.record c.kind_at.ensures.kind (⊎_map (ap number_of) (ap number_of) c.in-Range.is) }
+walk-walk_letter-requires t c = record { given = c.requires; letter = letter_at c.args.area.now.table.now c.args.k c.kind_at.ensures.kind (⊎_map (ap number_of) (ap number_of) c.in-Range.is) }
 
 pub walk-walk_or-requires : goal.walk-walk_or-requires
 walk-walk_or-requires t c = (omega (arith, c.decreases), (c.requires, sym c.kind_at.ensures.kind ∙ ap number_of c.in-Or.is))
@@ -153,11 +153,11 @@ walk_seq-walk-middle-requires t c = (
       c.put-next.ensures,
 )
 
-pub walk_seq-overflow_sub-rest : goal.walk_seq-overflow_sub-rest
-walk_seq-overflow_sub-rest t c = omega (arith, c.longest_first_part-first.ensures.found.inside, c.requires.given.here.size)
+pub walk_seq-overflow_sub-left : goal.walk_seq-overflow_sub-left
+walk_seq-overflow_sub-left t c = omega (arith, c.longest_first_part-first.ensures.found.inside, c.requires.given.here.size)
 
-pub walk_seq-overflow_sub-rest-2 : goal.walk_seq-overflow_sub-rest-2
-walk_seq-overflow_sub-rest-2 t c = omega (arith, c.longest_first_part-first.ensures.found.inside)
+pub walk_seq-overflow_sub-size : goal.walk_seq-overflow_sub-size
+walk_seq-overflow_sub-size t c = omega (arith, c.longest_first_part-first.ensures.found.inside)
 
 pub walk_seq-walk-requires : goal.walk_seq-walk-requires
 walk_seq-walk-requires t c = (

@@ -14,11 +14,11 @@ loop-cut-init c = search-start c.requires c.longest.ensures.0 c.min-cut.ensures
 pub tell-requires : goal.tell-requires
 tell-requires c = record { inside = search-first c.requires; e_le_d = omega (arith, c.requires.size, c.loop-cut.invariant.inside) }
 
-pub overflow_sub-part : goal.overflow_sub-part
-overflow_sub-part c = omega (arith, c.requires.size, c.loop-cut.invariant.inside)
+pub overflow_sub-left : goal.overflow_sub-left
+overflow_sub-left c = omega (arith, c.requires.size, c.loop-cut.invariant.inside)
 
-pub overflow_sub-part-then-tell : goal.overflow_sub-part-then-tell
-overflow_sub-part-then-tell c = omega (arith, c.loop-cut.invariant.inside)
+pub overflow_sub-size : goal.overflow_sub-size
+overflow_sub-size c = omega (arith, c.loop-cut.invariant.inside)
 
 pub tell-requires-then-tell : goal.tell-requires-then-tell
 tell-requires-then-tell c = record { inside = search-second c.requires _; e_le_d = omega (arith, c.requires.size) }

@@ -4,7 +4,7 @@ use Rattle.matcher.proofs.Searching.{Searching}
 use Rattle.matcher.proofs.longest_first_part.Given as goal
 
 abbrev pub invariant-loop-cut : goal.invariant-loop-cut
-invariant-loop-cut l = Searching l.m l.work l.part.record l.b l.part.left l.part.size l.lowest l.cut
+invariant-loop-cut l = Searching l.m l.work l.a l.b l.left l.size l.lowest l.cut
 
 abbrev pub decreases-loop-cut : goal.decreases-loop-cut
 decreases-loop-cut l = l.cut
